@@ -1,0 +1,3 @@
+pub mod Copies
+mod Rings
+mod Frames

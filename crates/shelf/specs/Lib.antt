@@ -1,1 +1,6 @@
 pub mod Texts
+pub mod Rows
+pub mod Answers
+pub mod Kinds
+pub mod Fits
+pub mod Frames
