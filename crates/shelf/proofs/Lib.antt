@@ -1,3 +1,4 @@
 pub mod Copies
 mod Rings
 mod Frames
+mod Yielding

@@ -4,3 +4,5 @@ pub mod Answers
 pub mod Kinds
 pub mod Fits
 pub mod Frames
+pub mod Layout
+pub mod Order

@@ -1,6 +1,7 @@
 // Texts on a shelf, and the trace frames that texts are received in.
 
 mod check;
+mod facts;
 mod frame;
 mod held;
 mod one;
@@ -12,8 +13,14 @@ mod trace;
 
 pub use check::Checked;
 pub use check::Received;
+pub use facts::laid_out_frames_yield;
+pub use facts::rows_stand_in_order;
 pub use frame::FrameFault;
+pub use frame::FrameFaultDebug;
+pub use frame::FrameFaultPartialEq;
 pub use frame::Kind;
+pub use frame::KindDebug;
+pub use frame::KindPartialEq;
 pub use held::Held;
 pub use held::HeldShelf;
 pub use pair::Pair;
@@ -21,8 +28,14 @@ pub use pair::PairShelf;
 pub use ring::Ring;
 pub use ring::RingShelf;
 pub use rows::Layer;
+pub use rows::LayerDebug;
+pub use rows::LayerPartialEq;
 pub use rows::Row;
+pub use rows::RowDebug;
+pub use rows::RowPartialEq;
 pub use texts::CopyFault;
+pub use texts::CopyFaultDebug;
+pub use texts::CopyFaultPartialEq;
 pub use texts::LIMIT;
 pub use texts::MOST_TEXTS;
 pub use texts::Shelf;
