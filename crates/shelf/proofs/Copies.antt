@@ -1,15 +1,16 @@
 -- What a copy leaves in its buffer, by its answer.
 use mathlib.Core.Path.{_≡_, refl, sym, _∙_, ap}
 use mathlib.Core.List.{List, [], _∷_}
-use mathlib.Core.Bool.{cond}
+use mathlib.Core.Bool.{true, false, cond}
 use mathlib.Core.Logic.{⊎-elim}
 use Prim.Native.Nat.{ℕ, zero, suc, _+_, _-_, _≤_, _<_, min}
 use native.Mathlib.Omega.{arith}
-use lib.Dec.{leb}
+use lib.Dec.{leb, ltb}
 use lib.ListN.{length, take, drop, length-take, length-append}
-use Rattle.std.proofs.shelf.Lists.{getD-take, getD-append-left, getD-append-right, drop-take, take-take, take-all}
-use Rattle.std.proofs.shelf.Tests.{le-leb, cases-lt}
+use Rattle.std.proofs.shelf.Lists.{getD-take, getD-append-left, getD-append-right, drop-take, take-take, take-all, getD-past, nil-from-length}
+use Rattle.std.proofs.shelf.Tests.{le-leb, lt-leb, le-ltb, cases-lt}
 use Rattle.std.proofs.shelf.Ways.{tells}
+use Rattle.std.specs.Options.{valueOr}
 use Rattle.std.specs.Results.{isOk}
 use Rattle.std.specs.declared.option.Option.{Option}
 use Rattle.std.specs.declared.result.Result.{Result}
@@ -32,6 +33,26 @@ module _ (texts : List (List ℕ)) (k from : ℕ) (old : List ℕ) where
   pub accepted : (after : List ℕ) → Ok tt ≡ copy-answer texts k from (length old) → after ≡ stretch from (length old) (text texts k) →
       Copied texts k from old (Ok tt) after
   accepted after e f = record { answers = e; fills = f ∙ ap (λ r. cond (isOk r) (stretch from (length old) (text texts k)) old) e }
+
+-- a buffer as long as the text is filled with the whole text
+pub whole : (texts : List (List ℕ)) (k : ℕ) (old : List ℕ) → length old ≡ length (text texts k) → copy-fills texts k 0 old ≡ text texts k
+whole texts k old e =
+    ⊎-elim (λ (h : k < length texts).
+    let there : leb (length texts) k ≡ false = lt-leb (length texts) k h in
+    let within : ltb (length (text texts k)) (0 + length old) ≡ false = le-ltb (length (text texts k)) (0 + length old) (omega arith) in
+    sym (accepted texts k 0 old (stretch 0 (length old) (text texts k)) (rw (there, within) refl) refl .fills) ∙ take-all (length old) (text texts k) (omega arith))
+    (λ (h : length texts ≤ k).
+    let none : text texts k ≡ [] = getD-past texts k [] h in
+    let there : leb (length texts) k ≡ true = le-leb (length texts) k h in
+    sym (refused texts k 0 old NoText (rw there refl) .fills) ∙ nil-from-length old (e ∙ ap length none) ∙ sym none)
+    (cases-lt k (length texts))
+
+-- a text that is not there is as long as an empty one
+pub length-or-none : (texts : List (List ℕ)) (k : ℕ) → valueOr (text-length texts k) 0 ≡ length (text texts k)
+length-or-none texts k =
+    ⊎-elim (λ (h : k < length texts). rw (lt-leb (length texts) k h) refl)
+    (λ (h : length texts ≤ k). rw (le-leb (length texts) k h, getD-past texts k [] h) refl)
+    (cases-lt k (length texts))
 
 -- on a shelf of one text
 pub accepted-one : (t : List ℕ) (k from : ℕ) (old after : List ℕ) → Ok tt ≡ copy-answer (t ∷ []) k from (length old) →

@@ -68,9 +68,21 @@ fn stretches_of_a_held_text() -> Result<(), Fail> {
 // Three texts and then seven: the last two are cut off.
 #[test]
 fn pairs_of_pairs() -> Result<(), Fail> {
-    let three = Pair::new(Held::new(b"a"), Pair::new(Held::new(b"bb"), Held::new(b"ccc")));
-    let four = Pair::new(Pair::new(Held::new(b"1"), Held::new(b"22")), Pair::new(Held::new(b"333"), Held::new(b"4444")));
-    let seven = Pair::new(four, Pair::new(Ring::new(b"5xx", 1), Pair::new(Held::new(b"6"), Held::new(b"7"))));
+    let three = Pair::new(
+        Held::new(b"a"),
+        Pair::new(Held::new(b"bb"), Held::new(b"ccc")),
+    );
+    let four = Pair::new(
+        Pair::new(Held::new(b"1"), Held::new(b"22")),
+        Pair::new(Held::new(b"333"), Held::new(b"4444")),
+    );
+    let seven = Pair::new(
+        four,
+        Pair::new(
+            Ring::new(b"5xx", 1),
+            Pair::new(Held::new(b"6"), Held::new(b"7")),
+        ),
+    );
     let ten = Pair::new(three, seven);
     check_eq(ten.count(), 8)?;
     let texts: [&[u8]; 8] = [b"a", b"bb", b"ccc", b"1", b"22", b"333", b"4444", b"xx5"];
