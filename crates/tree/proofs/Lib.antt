@@ -1,0 +1,17 @@
+pub mod Sides
+pub mod Writing
+pub mod Steps
+pub mod Shape
+pub mod Balance
+pub mod Measure
+pub mod Store
+pub mod Splits
+pub mod Only
+pub mod Spell
+pub mod Heap
+pub mod Fib
+pub mod Edits
+pub mod Costs
+pub mod Outcome
+pub mod Bare
+pub mod Facts

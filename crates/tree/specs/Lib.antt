@@ -1,0 +1,9 @@
+pub mod Tree
+pub mod Side
+pub mod Rules
+pub mod Relations
+pub mod Stored
+pub mod Edits
+pub mod Bare
+pub mod Fib
+pub mod Facts
