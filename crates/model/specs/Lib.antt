@@ -1,0 +1,16 @@
+pub mod Calls
+pub mod Answers
+pub mod Rows
+pub mod Plain
+pub mod Book
+pub mod Sheet
+pub mod Runs
+pub mod Table
+pub mod Found
+pub mod Made
+pub mod Trees
+pub mod Tally
+pub mod Law
+pub mod Unchanged
+pub mod Worked
+pub mod Sample
