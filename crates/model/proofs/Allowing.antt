@@ -15,20 +15,19 @@ use Rattle.shelf.specs.Texts.{limit}
 use Rattle.tree.specs.Tree.{Tree}
 use Rattle.tree.specs.Edits.{size-any, Level, Fit}
 use Rattle.tree.specs.Bare.{Bare, forget-any, Put-any}
-use Rattle.tree.specs.Facts.{Bare-edits}
+use Rattle.tree.specs.Facts.{Bare-edits, Bare-counts}
 use Rattle.tree.proofs.Bare.{follow-bare-rules}
 use Rattle.model.specs.Calls.{Edit, put-piece, put-version, cut, crop, Book-call, open-version, edit, keep, toss, read, find, shape, Call, on-book, on-sheet, elsewhere}
 use Rattle.model.specs.Answers.{accepted, Book-told, opened, edited, tossed, Told, by-book}
 use Rattle.model.specs.Rows.{draft-length, past-draft, past-text, edit-rows, book-rows, plain-rows}
 use Rattle.model.specs.Plain.{Plain}
-use Rattle.model.specs.Made.{put-any-made}
+use Rattle.tree.specs.Made.{put-any-made}
 use Rattle.model.specs.Book.{Draft, Book, version, tree-of, settled-of, settled, lengths-of, built, made, book-effect}
 use Rattle.model.specs.Sheet.{Rule}
 use Rattle.model.specs.Runs.{State, step}
 use Rattle.model.specs.Trees.{Tree-book, forgotten, Tree-draft, open-draft, tree, with-draft, shape-of, edit-made, Edits-to, Allows-book, Allows}
 use Rattle.model.proofs.Steps.{Passed, effect, by-row}
 use Rattle.model.proofs.Shapes.{shape-forget}
-use Rattle.model.proofs.Making
 use Rattle.model.proofs.Pairing.{firm, Paired, settled-le, draft-fit, draft-long, version-whole}
 
 level : (texts : List (List ℕ)) (slots : List Tree) (o : Option Tree) → Fit texts limit slots o → Level o
@@ -70,17 +69,14 @@ module _ (texts : List (List ℕ)) (b : Book) (p : Plain) (h : Paired texts b p)
   follows : (e : Edit) → Passed (edit-rows (lengths-of b) e) → Follows e
   follows e passed = go e passed
     where
-      n : ℕ
-      n = length (b .slots)
-
-      draft : Option Tree
-      draft = tree-of (b .draft)
-
       balanced : Level (tree-of (b .draft))
       balanced = level texts (b .slots) (tree-of (b .draft)) (draft-fit texts b p h)
 
       facts : Bare-edits (length (b .slots)) (tree-of (b .draft))
       facts = follow-bare-rules .1 (length (b .slots)) (tree-of (b .draft)) balanced
+
+      counts : Bare-counts (length (b .slots)) (tree-of (b .draft))
+      counts = follow-bare-rules .2 (length (b .slots)) (tree-of (b .draft)) balanced
 
       inside : (end : ℕ) → past-draft (lengths-of b) end ≡ false → end ≤ size-any (tree-of (b .draft))
       inside end e = omega (arith, ltb-false (draft-length (lengths-of b)) end e, draft-long texts (b .draft))
@@ -88,20 +84,20 @@ module _ (texts : List (List ℕ)) (b : Book) (p : Plain) (h : Paired texts b p)
       go : (e : Edit) → Passed (edit-rows (lengths-of b) e) → Follows e
       go (put-piece q k i m) u =
           let le = inside q (or-parts (past-draft (lengths-of b) q) (past-text (lengths-of b) k (i + m)) (u .1 .1 .0) .0) in
-          (rw draft-is (Making.put-piece n draft q k i m balanced le), λ t rules. facts .puts-piece q k i m le t .0 (rw draft-is at rules))
+          (rw draft-is (counts .puts-piece q k i m le), λ t rules. facts .puts-piece q k i m le t .0 (rw draft-is at rules))
       go (put-version q v) u =
           let le = inside q (u .1 .1 .0) in
           let x = version b v in
           let even = level texts (firm b) x (version-whole texts b p h v) in
           subst (λ (y : Option Bare). ((rules : Put-any (open-draft now .tree) q y (forget-any (built b (put-version q v) .tree))) × (put-any-made rules ≡ made b (put-version q v)))
           × ((t : Option Bare) → Put-any (open-draft now .tree) q y t → forget-any (built b (put-version q v) .tree) ≡ t)) (sym (version-is v))
-          (rw draft-is (Making.put-any n draft q x balanced even le), λ t rules. facts .puts q x le even t .0 (rw draft-is at rules))
+          (rw draft-is (counts .puts q x le even), λ t rules. facts .puts q x le even t .0 (rw draft-is at rules))
       go (cut i m) u =
           let le = inside (i + m) (u .1 .0) in
-          (rw draft-is (Making.cut n draft i m balanced le), λ t rules. facts .cuts i m le t .0 (rw draft-is at rules))
+          (rw draft-is (counts .cuts i m le), λ t rules. facts .cuts i m le t .0 (rw draft-is at rules))
       go (crop i m) u =
           let le = inside (i + m) (u .1 .0) in
-          (rw draft-is (Making.crop n draft i m balanced le), λ t rules. facts .crops i m le t .0 (rw draft-is at rules))
+          (rw draft-is (counts .crops i m le), λ t rules. facts .crops i m le t .0 (rw draft-is at rules))
 
   -- where no draft is open, all slots in use are settled
   settled-all : (d : Option Draft) → isSome (mapped (λ x. size-any (x .tree)) d) ≡ false → length (b .slots) - settled-of (length (b .slots)) d ≡ 0

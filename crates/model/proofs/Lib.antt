@@ -2,7 +2,6 @@ pub mod Strings
 pub mod Finds
 pub mod Slots
 pub mod Shapes
-pub mod Making
 pub mod Sheets
 pub mod Tables
 pub mod Steps

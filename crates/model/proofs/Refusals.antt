@@ -1,14 +1,16 @@
 -- Both books refuse the same calls by the rows that strings decide.
 use mathlib.Core.Path.{_≡_, refl, sym, _∙_, ap}
 use mathlib.Core.List.{List}
+use mathlib.Core.Bool.{true}
 use mathlib.Core.Logic.{inl, inr, ⊎-elim, _↔_}
 use Prim.Native.Nat.{ℕ, _≤_}
 use native.Mathlib.Omega.{arith}
-use lib.Dec.{lit≤}
+use lib.Dec.{leb}
 use Rattle.std.specs.Options.{orOther}
 use Rattle.std.specs.declared.option.Option.{Option}
 use Rattle.std.specs.declared.option.Option.the-variants.{Some, None}
 use Rattle.std.specs.shelf.Lists.{All}
+use Rattle.std.proofs.shelf.Tests.{leb-true}
 use Rattle.model.specs.Calls.{put-piece, put-version, cut, crop, open-version, edit, keep, toss, read, find, shape, bring-up, summary, Call, on-book, on-sheet, elsewhere}
 use Rattle.model.specs.Answers.{refused, row-of, Plain-told, unless}
 use Rattle.model.specs.Rows.{Lengths, first-row, plain-rows}
@@ -21,35 +23,24 @@ use Rattle.model.proofs.Steps.{not-none, not-accepted, first-append, first-of,
 use Rattle.model.proofs.Pairing.{same-lengths}
 use Rattle.model.proofs.Keeping.{Sound}
 
+low : (r : ℕ) → leb 5 r ≡ true → leb r 11 ≡ true → Plain-row r
+low r a b = inl (leb-true 5 r a, leb-true r 11 b)
+
 plain-rows-are : (b : Lengths) (c : Call) → All (λ r. Plain-row (r .0)) (plain-rows b c)
-plain-rows-are b c = go c
-  where
-    r5 : Plain-row 5
-    r5 = inl (lit≤ tt, lit≤ tt)
-
-    r7 : Plain-row 7
-    r7 = inl (lit≤ tt, lit≤ tt)
-
-    r9 : Plain-row 9
-    r9 = inl (lit≤ tt, lit≤ tt)
-
-    r11 : Plain-row 11
-    r11 = inl (lit≤ tt, lit≤ tt)
-
-    go : (c : Call) → All (λ r. Plain-row (r .0)) (plain-rows b c)
-    go (on-book (open-version v)) = (r5, (inl (lit≤ tt, lit≤ tt), tt))
-    go (on-book (edit (put-piece p k i m))) = (r7, (inl (lit≤ tt, lit≤ tt), (r9, (inl (lit≤ tt, lit≤ tt), (r11, tt)))))
-    go (on-book (edit (put-version p v))) = (r5, (r7, (r9, (r11, tt))))
-    go (on-book (edit (cut i m))) = (r7, (r9, tt))
-    go (on-book (edit (crop i m))) = (r7, (r9, tt))
-    go (on-book keep) = (r7, (inr (inl refl), tt))
-    go (on-book toss) = (r7, tt)
-    go (on-book (read v i m shown)) = (r5, (r9, tt))
-    go (on-book (find v i pattern shown)) = (r5, (r9, (inr (inr refl), tt)))
-    go (on-book (shape v)) = (r5, tt)
-    go (on-sheet k (bring-up shown)) = tt
-    go (on-sheet k (summary v i m shown)) = (r5, (r9, tt))
-    go elsewhere = tt
+plain-rows-are b (on-book (open-version v)) = (low 5 refl refl, (low 6 refl refl, tt))
+plain-rows-are b (on-book (edit (put-piece p k i m))) =
+    (low 7 refl refl, (low 8 refl refl, (low 9 refl refl, (low 10 refl refl, (low 11 refl refl, tt)))))
+plain-rows-are b (on-book (edit (put-version p v))) = (low 5 refl refl, (low 7 refl refl, (low 9 refl refl, (low 11 refl refl, tt))))
+plain-rows-are b (on-book (edit (cut i m))) = (low 7 refl refl, (low 9 refl refl, tt))
+plain-rows-are b (on-book (edit (crop i m))) = (low 7 refl refl, (low 9 refl refl, tt))
+plain-rows-are b (on-book keep) = (low 7 refl refl, (inr (inl refl), tt))
+plain-rows-are b (on-book toss) = (low 7 refl refl, tt)
+plain-rows-are b (on-book (read v i m shown)) = (low 5 refl refl, (low 9 refl refl, tt))
+plain-rows-are b (on-book (find v i pattern shown)) = (low 5 refl refl, (low 9 refl refl, (inr (inr refl), tt)))
+plain-rows-are b (on-book (shape v)) = (low 5 refl refl, tt)
+plain-rows-are b (on-sheet k (bring-up shown)) = tt
+plain-rows-are b (on-sheet k (summary v i m shown)) = (low 5 refl refl, (low 9 refl refl, tt))
+plain-rows-are b elsewhere = tt
 
 not-both : (r : ℕ) → Own-row r → Plain-row r → ⊥
 not-both r own plain =

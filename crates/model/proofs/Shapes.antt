@@ -4,17 +4,10 @@ use Rattle.std.specs.declared.option.Option.{Option}
 use Rattle.std.specs.declared.option.Option.the-variants.{Some, None}
 use Rattle.tree.specs.Tree
 use Rattle.tree.specs.Tree.{Tree, piece, node}
-use Rattle.tree.specs.Bare.{size, height, forget, forget-any}
+use Rattle.tree.specs.Bare.{forget, forget-any}
+use Rattle.tree.proofs.Bare.{size-forget, height-forget}
 use Rattle.model.specs.Book
 use Rattle.model.specs.Trees.{pieces, shape-of}
-
-pub size-forget : (t : Tree) → size (forget t) ≡ Tree.size t
-size-forget (piece s k i m) = refl
-size-forget (node s l r) = rw (size-forget l, size-forget r)
-
-pub height-forget : (t : Tree) → height (forget t) ≡ Tree.height t
-height-forget (piece s k i m) = refl
-height-forget (node s l r) = rw (height-forget l, height-forget r)
 
 pieces-forget : (t : Tree) → pieces (forget t) ≡ Tree.pieces t
 pieces-forget (piece s k i m) = refl

@@ -7,7 +7,6 @@ pub mod Sheet
 pub mod Runs
 pub mod Table
 pub mod Found
-pub mod Made
 pub mod Trees
 pub mod Tally
 pub mod Law

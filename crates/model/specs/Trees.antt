@@ -9,7 +9,7 @@ use Rattle.std.specs.declared.option.Option.the-variants.{Some, None}
 use Rattle.tree.specs.Bare.{Bare, leaf, fork, size, height, forget-any, Put-piece, Put-any, Cut, Crop}
 use Rattle.model.specs.Calls.{Edit, put-piece, put-version, cut, crop, Book-call, open-version, edit, keep, toss, read, find, shape, Call, on-book, on-sheet, elsewhere}
 use Rattle.model.specs.Answers.{Answer, refused, accepted, Book-told, opened, edited, tossed, shaped, Told, by-book}
-use Rattle.model.specs.Made.{put-made, put-any-made, cut-made, crop-made}
+use Rattle.tree.specs.Made.{put-made, put-any-made, cut-made, crop-made}
 use Rattle.model.specs.Book.{Book}
 
 -- The tree of a draft, and the slots that were made for it since it was opened.

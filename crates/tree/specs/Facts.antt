@@ -15,6 +15,7 @@ use Rattle.tree.specs.Relations.{Leaned, Joined, Split}
 use Rattle.tree.specs.Stored.{Stored, Grows, Placed, Placed-both}
 use Rattle.tree.specs.Edits.{Fit, Level, height-any, Spells, spell-any, size-any, as-it-is, join-any, split-any, put-piece, put-any, cut, crop}
 use Rattle.tree.specs.Bare.{Bare, forget, forget-any, Leans, Joins, Join, Splits, Join-any, Split-any, Put-piece, Put-any, Cut, Crop}
+use Rattle.tree.specs.Made.{put-made, put-any-made, cut-made, crop-made}
 use Rattle.tree.specs.Fib.{fib}
 
 -- The functions build what the relations allow, and nothing else is allowed.
@@ -52,8 +53,18 @@ pub record Bare-edits (n : ℕ) (t : Option Tree) : Type 0 where
   pub cuts : (p m : ℕ) → p + m ≤ size-any t → (u : Option Bare) → Cut (forget-any t) p m u ↔ forget-any (cut n t p m .tree) ≡ u
   pub crops : (p m : ℕ) → p + m ≤ size-any t → (u : Option Bare) → Crop (forget-any t) p m u ↔ forget-any (crop n t p m .tree) ≡ u
 
+-- The rules that the edits follow write as many pieces and nodes as the edits take slots.
+pub record Bare-counts (n : ℕ) (t : Option Tree) : Type 0 where
+  pub puts-piece : (p k i m : ℕ) → p ≤ size-any t →
+      (rules : Put-piece (forget-any t) p k i m (forget-any (put-piece n t p k i m .tree))) × (put-made rules + 1 ≡ length (put-piece n t p k i m .new))
+  pub puts : (p : ℕ) (x : Option Tree) → p ≤ size-any t → Level x →
+      (rules : Put-any (forget-any t) p (forget-any x) (forget-any (put-any n t p x .tree))) × (put-any-made rules ≡ length (put-any n t p x .new))
+  pub cuts : (p m : ℕ) → p + m ≤ size-any t → (rules : Cut (forget-any t) p m (forget-any (cut n t p m .tree))) × (cut-made rules ≡ length (cut n t p m .new))
+  pub crops : (p m : ℕ) → p + m ≤ size-any t → (rules : Crop (forget-any t) p m (forget-any (crop n t p m .tree))) × (crop-made rules ≡ length (crop n t p m .new))
+
 abbrev pub Follow-bare-rules : Type 0
-Follow-bare-rules = Bare-trees × ((n : ℕ) (t : Option Tree) → Level t → Bare-edits n t)
+Follow-bare-rules =
+    Bare-trees × ((n : ℕ) (t : Option Tree) → Level t → Bare-edits n t) × ((n : ℕ) (t : Option Tree) → Level t → Bare-counts n t)
 
 -- The relations on bare trees leave no choice, whether the trees are balanced or not.
 pub record One-outcome : Type 0 where

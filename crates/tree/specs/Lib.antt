@@ -5,5 +5,6 @@ pub mod Relations
 pub mod Stored
 pub mod Edits
 pub mod Bare
+pub mod Made
 pub mod Fib
 pub mod Facts
