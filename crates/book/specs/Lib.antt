@@ -1,0 +1,13 @@
+pub mod Sides
+pub mod Records
+pub mod Building
+pub mod Parting
+pub mod Changing
+pub mod Faults
+pub mod Contents
+pub mod Tests
+pub mod View
+pub mod Whole
+pub mod Opening
+pub mod Access
+pub mod Receipts

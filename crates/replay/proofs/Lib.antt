@@ -1,0 +1,6 @@
+pub mod Handing
+mod Calling
+mod Asking
+mod Steps
+mod Running
+mod Lawful
