@@ -13,3 +13,4 @@ pub mod Law
 pub mod Unchanged
 pub mod Worked
 pub mod Sample
+pub mod Histories

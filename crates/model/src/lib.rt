@@ -2,6 +2,7 @@
 // each function states a theorem, and the check asks for its proof.
 
 ghost use Rattle.model.specs.Found.{Finds-the-first};
+ghost use Rattle.model.specs.Histories.{Histories-go-on};
 ghost use Rattle.model.specs.Law.{Law};
 ghost use Rattle.model.specs.Sample.{Sample-runs};
 ghost use Rattle.model.specs.Table.{Table-facts};
@@ -13,6 +14,14 @@ use rule::Rule;
 // answers are the plain book's, trees are those that the rules of trees allow, and summaries are the rule's values.
 pub fn law_of_kept_versions<R: Rule>() -> u8
     ensures { λ _. ⌜ Law (record { value = R·Rule .value; joined = R·Rule .joined }) ⌝ }
+{
+    0
+}
+
+// A history that leads to the state before a call, with that call added, leads to the state after it. So the law speaks of every
+// program that makes the calls one by one, each of which is held to the machine's step.
+pub fn histories_go_on<R: Rule>() -> u8
+    ensures { λ _. ⌜ Histories-go-on (record { value = R·Rule .value; joined = R·Rule .joined }) ⌝ }
 {
     0
 }
