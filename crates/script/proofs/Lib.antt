@@ -1,0 +1,12 @@
+pub mod Clips
+pub mod Cuts
+pub mod Scans
+pub mod Digits
+pub mod Lookups
+pub mod Readings
+pub mod Writing
+pub mod Printing
+pub mod Answering
+pub mod Insides
+pub mod Holding
+pub mod Sound

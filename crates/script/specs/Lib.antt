@@ -1,0 +1,17 @@
+pub mod Firsts
+pub mod Stretches
+pub mod Lines
+pub mod Tokens
+pub mod Shapes
+pub mod Faults
+pub mod Bounds
+pub mod Names
+pub mod Forms
+pub mod Args
+pub mod Arguments
+pub mod Judgement
+pub mod Smallest
+pub mod Commands
+pub mod Buffers
+pub mod Items
+pub mod Answers

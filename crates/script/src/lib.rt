@@ -1,0 +1,47 @@
+// Scripts: how a line is read into a command or a fault, and how answers are printed.
+
+mod answer;
+mod args;
+mod arguments;
+mod bounds;
+mod buffer;
+mod bytes;
+mod command;
+mod fault;
+mod forms;
+mod items;
+mod judgement;
+mod lines;
+mod names;
+mod shapes;
+mod stretch;
+mod tokens;
+
+pub use answer::Answer;
+pub use answer::print_answer;
+pub use bounds::BUFFER_LEAST;
+pub use bounds::FILE_MOST;
+pub use bounds::SHOW_MOST;
+pub use bounds::check_buffer;
+pub use bounds::check_file;
+pub use buffer::put;
+pub use command::Command;
+pub use command::CommandDebug;
+pub use command::CommandPartialEq;
+pub use fault::Fault;
+pub use fault::ScriptFault;
+pub use fault::ScriptFaultDebug;
+pub use fault::ScriptFaultPartialEq;
+pub use items::Item;
+pub use items::Word;
+pub use items::print;
+pub use judgement::first_column;
+pub use judgement::judge;
+pub use lines::Line;
+pub use lines::LineDebug;
+pub use lines::LinePartialEq;
+pub use lines::line_at;
+pub use names::Names;
+pub use stretch::Stretch;
+pub use stretch::StretchDebug;
+pub use stretch::StretchPartialEq;
