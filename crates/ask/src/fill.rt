@@ -12,7 +12,7 @@ use shelf::CopyFault;
 use shelf::Shelf;
 
 // Fills `out` from place `from` of the tree at a slot: goes down to the pieces that it touches, and copies each by one call.
-pub fn fill<S: Shelf>(
+pub(crate) fn fill<S: Shelf>(
     nodes: &[Node],
     shelf: &S,
     slot: u16,

@@ -18,7 +18,7 @@ const WINDOW: usize = 4096;
 
 // The first place at or after `from` where the pattern stands in the bytes of the tree at a slot.
 // The bytes are read through a window. Two neighbouring windows share one byte less than the pattern has, so that it stands whole in one of them.
-pub fn stream<S: Shelf>(
+pub(crate) fn stream<S: Shelf>(
     nodes: &[Node],
     shelf: &S,
     slot: u16,

@@ -51,7 +51,7 @@ pub struct Built {
 
 impl Built {
     // One building, and another that goes on with its result.
-    pub fn then(self, next: Built) -> Built
+    pub(crate) fn then(self, next: Built) -> Built
         requires { ⌜ self .made + next .made < 2 ^ 64 ⌝ }
         ensures { λ r. ⌜ (r .slot ≡ next .slot) × (r .made ≡ self .made + next .made) ⌝ }
     {

@@ -8,4 +8,4 @@ mod joins;
 mod splits;
 mod writes;
 
-pub use guard::change;
+pub(crate) use guard::change;

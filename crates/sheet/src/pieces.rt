@@ -26,7 +26,7 @@ fn block_value<R: Rule, S: Shelf>(
 }
 
 // The value of `len` bytes from place `from` of text k on, read block by block.
-pub fn piece_value<R: Rule, S: Shelf>(
+pub(crate) fn piece_value<R: Rule, S: Shelf>(
     shelf: &S,
     k: usize,
     from: usize,

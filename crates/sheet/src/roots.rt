@@ -16,7 +16,7 @@ use shelf::CopyFault;
 use shelf::Shelf;
 
 // The number of bytes of the tree at a root.
-pub fn root_len(nodes: &[Node], root: Option<u16>) -> usize
+pub(crate) fn root_len(nodes: &[Node], root: Option<u16>) -> usize
     requires sound { ⌜ Sound (now nodes) ⌝ }
     requires root { ⌜ Root (length (now nodes)) root ⌝ }
     ensures is { λ r. ⌜ r ≡ size-any (any-at (now (nodes .entry)) root) ⌝ }
@@ -29,7 +29,7 @@ pub fn root_len(nodes: &[Node], root: Option<u16>) -> usize
 }
 
 // Whether the first `covered` slots are all that a root needs: its own is the last of them.
-pub fn covers_root(covered: usize, root: Option<u16>) -> bool
+pub(crate) fn covers_root(covered: usize, root: Option<u16>) -> bool
     ensures { λ r. ⌜ r ≡ rooted covered root ⌝ }
 {
     match root {
@@ -39,7 +39,7 @@ pub fn covers_root(covered: usize, root: Option<u16>) -> bool
 }
 
 // The value of a stretch of the tree at a root. The values stay as they are.
-pub fn root_value<R: Rule, S: Shelf>(
+pub(crate) fn root_value<R: Rule, S: Shelf>(
     values: &mut [R::Value],
     nodes: &[Node],
     shelf: &S,

@@ -36,7 +36,7 @@ fn slot_value<R: Rule, S: Shelf>(
 }
 
 // Fills in the values of the slots from `from` on.
-pub fn fill_values<R: Rule, S: Shelf>(
+pub(crate) fn fill_values<R: Rule, S: Shelf>(
     values: &mut [R::Value],
     nodes: &[Node],
     shelf: &S,
@@ -55,7 +55,7 @@ pub fn fill_values<R: Rule, S: Shelf>(
 }
 
 // The value of a stretch of the tree at a slot: a node that lies in the stretch whole is not entered.
-pub fn stretch_value<R: Rule, S: Shelf>(
+pub(crate) fn stretch_value<R: Rule, S: Shelf>(
     values: &[R::Value],
     nodes: &[Node],
     shelf: &S,

@@ -10,7 +10,7 @@ use crate::node::Node;
 use crate::node::Places;
 
 // The join of two trees, where one or both may be empty.
-pub fn join_any(
+pub(crate) fn join_any(
     nodes: &mut [Node],
     places: &mut Places,
     left: Option<u16>,
@@ -41,7 +41,7 @@ pub fn join_any(
 }
 
 // The parts before and behind any place.
-pub fn split_any(
+pub(crate) fn split_any(
     nodes: &mut [Node],
     places: &mut Places,
     root: Option<u16>,

@@ -109,7 +109,7 @@ fn crop(
 }
 
 // The tree that a change makes.
-pub fn build(
+pub(crate) fn build(
     nodes: &mut [Node],
     places: &mut Places,
     root: Option<u16>,

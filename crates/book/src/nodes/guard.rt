@@ -32,7 +32,7 @@ impl Drop for Guard<'_> {
 }
 
 // Makes a change. Where there is no room for it, the places in use are as they were.
-pub fn change(
+pub(crate) fn change(
     nodes: &mut [Node],
     places: &mut Places,
     root: Option<u16>,

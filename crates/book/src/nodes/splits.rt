@@ -11,7 +11,7 @@ use crate::node::Places;
 use crate::node::Shape;
 
 // The parts of the tree at a slot before and behind a place, which is strictly inside it.
-pub fn split(
+pub(crate) fn split(
     nodes: &mut [Node],
     places: &mut Places,
     slot: u16,

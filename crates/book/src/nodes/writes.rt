@@ -17,7 +17,7 @@ use crate::node::Shape;
 use crate::node::Side;
 
 // The slots of the two sides of a node, first the one on the side. A piece, which has no sides, stands for both.
-pub fn sides(nodes: &[Node], side: Side, slot: u16) -> (u16, u16)
+pub(crate) fn sides(nodes: &[Node], side: Side, slot: u16) -> (u16, u16)
     requires { ⌜ slot < length (now nodes) ⌝ }
     ensures { λ r. ⌜ r ≡ sides-of (tree-side side) slot (getD (now (nodes .entry)) slot no-node .shape) ⌝ }
 {
@@ -46,7 +46,7 @@ fn put_record(nodes: &mut [Node], places: &mut Places, node: Node) -> Result<Bui
 }
 
 // A piece of its own.
-pub fn leaf(
+pub(crate) fn leaf(
     nodes: &mut [Node],
     places: &mut Places,
     text: u8,
@@ -72,7 +72,7 @@ pub fn leaf(
 }
 
 // The node (A B) with A on the side; on the right it is (B A).
-pub fn fork(
+pub(crate) fn fork(
     nodes: &mut [Node],
     places: &mut Places,
     side: Side,
