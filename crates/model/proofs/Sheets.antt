@@ -129,7 +129,20 @@ module _ {V : Type 0} (texts : List (List ℕ)) (rule : Rule V) where
     pub stretch-is : (ts : List Tree) (vs : List V) (c : ℕ) (t : Tree) (f n : ℕ) → Right ts vs c → Stored ts t → Covered-tree c t → Within texts t → size t ≤ limit →
         f + n ≤ size t → stretch-value texts rule vs t f n ≡ rule .value (stretch f n (spell texts t))
     stretch-is ts vs c (piece s k i m) f n right st co w le h =
-        ap (rule .value) (sym (inside m f n (drop i (text texts k)) h ∙ ap (take n) (drop-drop f i (text texts k))))
+        let P : V → Type 0 = λ x. x ≡ rule .value (take n (drop f (take m (drop i (text texts k))))) in
+        cond-both (eqb f 0 && eqb n m) (getD vs s (rule .value [])) (rule .value (take n (drop (i + f) (text texts k)))) P
+        (λ e. whole (and-parts (eqb f 0) (eqb n m) e))
+        (λ _. ap (rule .value) (sym (inside m f n (drop i (text texts k)) h ∙ ap (take n) (drop-drop f i (text texts k)))))
+      where
+        whole : (eqb f 0 ≡ true) × (eqb n m ≡ true) → getD vs s (rule .value []) ≡ rule .value (take n (drop f (take m (drop i (text texts k)))))
+        whole e =
+            let z = eqb-true f 0 (e .0) in
+            let q = eqb-true n m (e .1) in
+            let bytes = take m (drop i (text texts k)) in
+            let short : length bytes ≤ n = simp length-take (omega arith) in
+            right s co
+            ∙ ap (λ (x : Tree). rule .value (spell texts x)) (st .1 leaf)
+            ∙ ap (rule .value) (sym (ap (λ (x : ℕ). take n (drop x bytes)) z ∙ take-all n bytes short))
     stretch-is ts vs c (node s l r) f n right st co w le h =
         stretch-node vs s l r f n (right s (co .0) ∙ ap (λ (x : Tree). rule .value (spell texts x)) (st .0 .1 leaf))
         (λ f n h. stretch-is ts vs c l f n right (st .1) (co .1) (w .0) (omega arith) h)

@@ -57,9 +57,10 @@ module _ {V : Type 0} (texts : List (List ℕ)) (rule : Rule V) where
   filled slots values n (suc count) =
       filled slots (set values n (tree-value values (getD slots n (piece 0 0 0 0)))) (suc n) count
 
-  -- the value of a stretch; a node that lies in it whole is not entered
+  -- the value of a stretch; a tree that lies in it whole is not entered
   abbrev pub stretch-value : List V → Tree → (from len : ℕ) → V
-  stretch-value values (piece s k i m) from len = rule .value (stretch (i + from) len (text texts k))
+  stretch-value values (piece s k i m) from len =
+      cond (eqb from 0 && eqb len m) (value-at values s) (rule .value (stretch (i + from) len (text texts k)))
   stretch-value values (node s l r) from len =
       cond (eqb from 0 && eqb len (size l + size r)) (value-at values s)
       (cond (leb (from + len) (size l)) (stretch-value values l from len)

@@ -54,7 +54,7 @@ pub(crate) fn fill_values<R: Rule, S: Shelf>(
     Ok(())
 }
 
-// The value of a stretch of the tree at a slot: a node that lies in the stretch whole is not entered.
+// The value of a stretch of the tree at a slot: a tree that lies in the stretch whole is not entered.
 pub(crate) fn stretch_value<R: Rule, S: Shelf>(
     values: &[R::Value],
     nodes: &[Node],
@@ -68,14 +68,14 @@ pub(crate) fn stretch_value<R: Rule, S: Shelf>(
     requires inside { ⌜ from + len ≤ size (tree-at (now nodes) slot) ⌝ }
     ensures { λ r. ⌜ r ≡ Ok (stretch-value (texts (now (shelf .entry))) (rule-of value joined) (now (values .entry)) (tree-at (now (nodes .entry)) slot) from len) ⌝ }
 {
+    if len == nodes[slot as usize].len as usize {
+        return Ok(values[slot as usize]);
+    }
     match nodes[slot as usize].shape {
         Shape::Piece { text, start } => {
             piece_value::<R, S>(shelf, text as usize, start as usize + from, len)
         }
         Shape::Fork { left, right } => {
-            if len == nodes[slot as usize].len as usize {
-                return Ok(values[slot as usize]);
-            }
             let front = nodes[left as usize].len as usize;
             if from + len <= front {
                 stretch_value::<R, S>(values, nodes, shelf, left, from, len)

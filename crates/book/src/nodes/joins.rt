@@ -75,7 +75,12 @@ fn lean(
 
 // One tree of the trees at two slots. Where one is higher by two or more, it is (A B) with A on its side,
 // and T, the join of B and the other, takes the place of B.
-pub(crate) fn join(nodes: &mut [Node], places: &mut Places, left: u16, right: u16) -> Result<Built, NoRoom>
+pub(crate) fn join(
+    nodes: &mut [Node],
+    places: &mut Places,
+    left: u16,
+    right: u16,
+) -> Result<Built, NoRoom>
     requires { ⌜ Pair (store (now nodes) (now places)) left right ⌝ }
     ensures { λ r. ⌜ Builds (store (now (nodes .entry)) (now (places .entry))) (store (now (nodes .exit)) (now (places .exit)))
         (rules.join (now (places .entry) .used) (tree-in (store (now (nodes .entry)) (now (places .entry))) left)

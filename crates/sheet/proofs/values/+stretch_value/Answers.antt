@@ -7,7 +7,7 @@ use Rattle.model.specs.Sheet.{stretch-value}
 use Rattle.sheet.specs.Reading.{rule-of}
 use Rattle.sheet.proofs.Slots.{leaf-at, node-at}
 use Rattle.sheet.proofs.Told.{told}
-use Rattle.sheet.proofs.Stretches.{whole, to-left, to-right, to-both}
+use Rattle.sheet.proofs.Stretches.{whole, of-piece, to-left, to-right, to-both}
 use Rattle.sheet.proofs.values.+stretch_value.Needs as need
 
 pub add-start : need.add-start
@@ -26,8 +26,11 @@ pub returns-in-Piece : need.returns-in-Piece
 returns-in-Piece g t c =
     let texts = g .S·Shelf .texts (c .args .shelf .now) in
     let rule = rule-of (g .R·Rule .value) (g .R·Rule .joined) in
+    let values = c .args .values .now in
     let p = leaf-at (c .pre .readable) (c .pre .slot .0) (c .in-Piece .is) in
-    c .piece-value .ensures ∙ ap (λ t. Ok (stretch-value texts rule (c .args .values .now) t (c .args .from) (c .args .len))) (sym (p .is))
+    c .piece-value .ensures
+    ∙ ap Ok (sym (of-piece texts rule values (c .args .slot) (c .in-Piece .text) (c .in-Piece .start) _ (c .args .from) (c .args .len) (c .if-len-nodes .left)))
+    ∙ ap (λ t. Ok (stretch-value texts rule values t (c .args .from) (c .args .len))) (sym (p .is))
 
 pub index-nodes-left : need.index-nodes-left
 index-nodes-left g t c =
@@ -73,9 +76,8 @@ returns-then-len-nodes g t c =
     let texts = g .S·Shelf .texts (c .args .shelf .now) in
     let rule = rule-of (g .R·Rule .value) (g .R·Rule .joined) in
     let values = c .args .values .now in
-    let n = node-at (c .pre .readable) (c .pre .slot .0) (c .in-Fork .is) in
     let there = getD-read values (c .args .slot) (c .index-values-slot .result) (c .pre .slot .1) (c .index-values-slot .is) (g .R·Rule .value []) in
-    ap Ok (there ∙ sym (whole texts rule values n (c .args .from) (c .args .len) (c .if-len-nodes .taken) (c .pre .inside)))
+    ap Ok (there ∙ sym (whole texts rule values (c .args .nodes .now) (c .pre .readable .sound) (c .args .slot) (c .pre .slot .0) (c .args .from) (c .args .len) (c .if-len-nodes .taken) (c .pre .inside)))
 
 pub returns-then-from-len : need.returns-then-from-len
 returns-then-from-len g t c =
