@@ -2,12 +2,14 @@
 // What counts is the number of differences, which is 0; the other numbers only say what was done.
 mod beside;
 mod expected;
+mod limit;
 mod making;
 mod plain;
 mod random;
 mod tally;
 mod trial;
 
+use limit::run_limit;
 use plain::stretch;
 use random::Random;
 use shelf::Held;
@@ -22,6 +24,9 @@ use std::error::AnyError;
 use tally::Tally;
 use trial::Setup;
 use trial::run_trial;
+
+// How often each kind of book is tried.
+const ROUNDS: usize = 5;
 
 // Bytes of few kinds, so that patterns recur.
 fn some_bytes(heap: Global, random: &mut Random, len: usize) -> Result<Vec<u8>, AllocError> {
@@ -96,14 +101,17 @@ fn run(rt: &LibcRuntime) -> Result<(), AnyError> {
     ];
     let mut random = Random::new(20_261_118);
     let mut tally = Tally::new();
-    for (slots, values, calls) in setups {
-        let setup = Setup {
-            slots,
-            values,
-            calls,
-        };
-        run_two(rt.alloc(), setup, &mut random, &mut tally)?;
+    for _ in 0..ROUNDS {
+        for (slots, values, calls) in setups {
+            let setup = Setup {
+                slots,
+                values,
+                calls,
+            };
+            run_two(rt.alloc(), setup, &mut random, &mut tally)?;
+        }
     }
+    run_limit(rt.alloc(), &mut tally)?;
     tally.print(rt)?;
     Ok(())
 }

@@ -1,5 +1,6 @@
 use crate::plain::Plain;
 use crate::random::Random;
+use book::MOST_VERSIONS;
 use replay::Call;
 use replay::Change;
 use replay::Question;
@@ -8,6 +9,9 @@ use replay::Which;
 
 // A draft that is longer is cropped next.
 const LONG: usize = 3000;
+
+// How many calls close a trial: a read of each version, a bring-up of each sheet, and a summary of each version by each.
+pub const CLOSING_CALLS: usize = MOST_VERSIONS + 2 + 2 * MOST_VERSIONS;
 
 // A version's number, now and then of one that is not kept.
 fn some_version(random: &mut Random, plain: &Plain) -> usize {
@@ -93,7 +97,8 @@ fn some_change(random: &mut Random, plain: &Plain, texts: &[Vec<u8>]) -> Change 
         let len = random.below(total.saturating_sub(from).min(LONG / 2));
         return Change::Crop { from, len };
     }
-    match random.below(40) {
+    let kinds = if plain.draft.is_some() { 40 } else { 8 };
+    match random.below(kinds) {
         0..=3 => Change::Keep,
         4 => Change::Toss,
         5 => Change::Open {
@@ -155,5 +160,47 @@ pub fn some_call(random: &mut Random, plain: &Plain, texts: &[Vec<u8>], patterns
             shelf: either(random),
             call: some_sheet_call(random, plain),
         },
+    }
+}
+
+// The number of a kept version, counting round where fewer are kept, and the length of its string.
+fn whole(plain: &Plain, k: usize) -> (usize, usize) {
+    let kept = plain.strings.len();
+    let version = if kept == 0 { 0 } else { k % kept };
+    (version, plain.version(version).unwrap_or(b"").len())
+}
+
+// Closing call k.
+pub fn closing_call(plain: &Plain, k: usize) -> Call {
+    if k < MOST_VERSIONS {
+        let (version, len) = whole(plain, k);
+        return Call::Ask {
+            shelf: Which::First,
+            question: Question::Read {
+                version,
+                from: 0,
+                len,
+            },
+        };
+    }
+    let rest = k - MOST_VERSIONS;
+    let call = if rest < 2 {
+        SheetCall::BringUp
+    } else {
+        let (version, len) = whole(plain, rest / 2 - 1);
+        SheetCall::Summary {
+            version,
+            from: 0,
+            len,
+        }
+    };
+    Call::Sheet {
+        sheet: if rest % 2 == 0 {
+            Which::First
+        } else {
+            Which::Second
+        },
+        shelf: Which::First,
+        call,
     }
 }

@@ -31,6 +31,10 @@ pub struct Tally {
     refused: [u32; 12],
     rows: [u32; 18],
     differences: u32,
+    // The greatest of the dimensions that were told.
+    longest: usize,
+    highest: usize,
+    most_pieces: usize,
 }
 
 // The number of a call's kind.
@@ -83,6 +87,9 @@ impl Tally {
             refused: [0; 12],
             rows: [0; 18],
             differences: 0,
+            longest: 0,
+            highest: 0,
+            most_pieces: 0,
         }
     }
 
@@ -94,6 +101,11 @@ impl Tally {
                 count(&mut self.rows, number as usize);
             }
             None => count(&mut self.accepted, kind(call)),
+        }
+        if let Answer::Book(BookAnswer::Shaped(dimensions)) = answer {
+            self.longest = self.longest.max(dimensions.len);
+            self.highest = self.highest.max(dimensions.height);
+            self.most_pieces = self.most_pieces.max(dimensions.pieces);
         }
     }
 
@@ -115,6 +127,13 @@ impl Tally {
             let times = self.rows[i];
             println!(rt, "row {i}: {times}")?;
         }
+        let longest = self.longest;
+        let highest = self.highest;
+        let most_pieces = self.most_pieces;
+        println!(
+            rt,
+            "up to {longest} bytes, height {highest}, {most_pieces} pieces"
+        )?;
         let differences = self.differences;
         println!(rt, "differences: {differences}")
     }

@@ -1,4 +1,6 @@
 use crate::beside::Beside;
+use crate::making::CLOSING_CALLS;
+use crate::making::closing_call;
 use crate::making::some_call;
 use crate::random::Random;
 use crate::tally::Tally;
@@ -6,8 +8,6 @@ use book::MOST_SLOTS;
 use book::Node;
 use book::open_book;
 use replay::Call;
-use replay::Question;
-use replay::Which;
 use replay::perform;
 use rule::brackets::Brackets;
 use rule::brackets::BracketsRule;
@@ -27,7 +27,7 @@ pub struct Setup {
     pub calls: usize,
 }
 
-// The next call: one made from the seed and, after `calls` of them, one version after the other read whole.
+// The next call: one made from the seed and, after `calls` of them, the closing calls.
 fn next_call(
     setup: Setup,
     turn: usize,
@@ -37,20 +37,13 @@ fn next_call(
     random: &mut Random,
 ) -> Call {
     if turn < setup.calls {
-        return some_call(random, &beside.plain, texts, patterns);
-    }
-    let version = turn - setup.calls;
-    Call::Ask {
-        shelf: Which::First,
-        question: Question::Read {
-            version,
-            from: 0,
-            len: beside.plain.version(version).unwrap_or(b"").len(),
-        },
+        some_call(random, &beside.plain, texts, patterns)
+    } else {
+        closing_call(&beside.plain, turn - setup.calls)
     }
 }
 
-// Makes calls on a new book and two new sheets, and compares each answer; at the end all versions are read whole.
+// Makes calls on a new book and two new sheets, and compares each answer.
 pub fn run_trial<S: Shelf, T: Shelf>(
     heap: Global,
     setup: Setup,
@@ -77,7 +70,7 @@ pub fn run_trial<S: Shelf, T: Shelf>(
     } else {
         texts[0].as_slice()
     };
-    for turn in 0..setup.calls.saturating_add(65) {
+    for turn in 0..setup.calls.saturating_add(CLOSING_CALLS) {
         let call = next_call(setup, turn, texts, patterns.len(), &beside, random);
         let answer = perform::<Lines, Brackets, S, T>(
             heap,
