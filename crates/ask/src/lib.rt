@@ -1,3 +1,5 @@
+#![tactic(auto)]
+
 // Questions over a book: read, find and shape.
 
 mod fill;

@@ -1,3 +1,5 @@
+#![tactic(auto)]
+
 // The book of kept versions: its node records, its drafts and the edits of a draft.
 
 mod book;

@@ -1,3 +1,5 @@
+#![tactic(auto)]
+
 // Books, questions and sheets at their borders, with what the rules give for each.
 
 #[cfg(test)]

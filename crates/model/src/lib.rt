@@ -1,3 +1,5 @@
+#![tactic(auto)]
+
 // The book's machine, the plain book and the book of trees, and the law that ties them. Nothing here computes at run time:
 // each function states a theorem, and the check asks for its proof.
 

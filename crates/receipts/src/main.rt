@@ -1,3 +1,5 @@
+#![tactic(auto)]
+
 // Edits a book through draft receipts, and prints what the calls answered and the versions that were kept.
 use ask::{read, shape};
 use book::{Book, BookFault, Draft, Kept, Node, open_book};

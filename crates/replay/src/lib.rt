@@ -1,3 +1,5 @@
+#![tactic(auto)]
+
 // A list of calls on a real book and its sheets, with the law of kept versions on its contract.
 
 mod call;

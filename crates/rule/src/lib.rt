@@ -1,3 +1,5 @@
+#![tactic(auto)]
+
 // Summary rules: values of byte strings that can be joined.
 ghost use Rattle.std.specs.Prelude.{◌≡◌, ℕ, ◌≤◌, List, [], ◌∷◌, length};
 ghost use Rattle.shelf.specs.Texts.{limit};

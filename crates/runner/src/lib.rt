@@ -1,3 +1,5 @@
+#![tactic(auto)]
+
 // Scripts run over a book: its lines are made as calls on a book and its two sheets, and what they answer is printed.
 
 mod keeping;

@@ -1,3 +1,5 @@
+#![tactic(auto)]
+
 // Scripts: how a line is read into a command or a fault, and how answers are printed.
 
 mod answer;

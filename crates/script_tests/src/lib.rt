@@ -1,3 +1,5 @@
+#![tactic(auto)]
+
 // Worked lines of scripts. The expected rows, columns and bytes were worked out by hand from the rules of the language.
 
 #[cfg(test)]

@@ -1,3 +1,5 @@
+#![tactic(auto)]
+
 // Sheets: the values of a summary rule, one for each slot of a book.
 
 mod fault;

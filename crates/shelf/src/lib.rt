@@ -1,3 +1,5 @@
+#![tactic(auto)]
+
 // Texts on a shelf, and the trace frames that texts are received in.
 
 mod check;

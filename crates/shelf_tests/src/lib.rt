@@ -1,3 +1,5 @@
+#![tactic(auto)]
+
 // Frames, rings and pairs at their borders, with what the rules give for each.
 
 #[cfg(test)]

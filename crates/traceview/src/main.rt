@@ -1,3 +1,5 @@
+#![tactic(auto)]
+
 // Prints what the frames trace.0 and trace.1 of the current folder hold.
 use std::io::Write;
 use std::{fs, io};

@@ -1,3 +1,5 @@
+#![tactic(auto)]
+
 ghost use Rattle.tree.specs.Facts.{FollowTheRules, SlotsInOrder, FollowBareRules, OneOutcome, JoinAdds, JoinKeeps, SplitKeeps, EditsSpell, HeightsBounded, SlotsKeep, EditsCount, EditsCost};
 
 // Joins and splits of balanced trees are what the relations on trees with slots allow, and nothing else is.

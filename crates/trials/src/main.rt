@@ -1,3 +1,5 @@
+#![tactic(auto)]
+
 // Makes calls from a seed on real books and their sheets, and compares each answer with plain strings kept beside them.
 // What counts is the number of differences, which is 0; the other numbers only say what was done.
 mod beside;

@@ -1,3 +1,5 @@
+#![tactic(auto)]
+
 // What a fitter is shown of a trace file.
 ghost use Rattle.std.specs.Prelude.{◌≡◌, ℕ, cond, ◌++◌, is_ok, IfOk, codes, decimal};
 ghost use Rattle.std.specs.Option.{option_map};

@@ -8,7 +8,7 @@ returns c =
     let bytes = c.args.bytes.now in
     let long : 6 ≤ length bytes = search rules in (
       long,
-      c.from-le-bytes-length.ensures ∙ sym (four_bytes bytes (search rules)),
-      c.from-le-bytes-kind.ensures ∙ sym (kind_bytes bytes long),
+      c.from_le_bytes-length.ensures ∙ sym (four_bytes bytes (search rules)),
+      c.from_le_bytes-kind.ensures ∙ sym (kind_bytes bytes long),
       take_rest bytes 6,
     )

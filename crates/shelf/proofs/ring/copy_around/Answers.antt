@@ -15,13 +15,13 @@ returns c =
     let n = length c.args.out.now in
     let at = (c.args.start % m + from) % m in
     let front = c.min-front.result in
-    let xs = c.copy-from-slice.new.self in
-    let ys = c.copy-from-slice-2.new.self in
+    let xs = c.copy_from_slice.new.self in
+    let ys = c.copy_from_slice-2.new.self in
     let in_memory : at < m = mod-lt (c.args.start % m + from) (omega (arith, c.requires.0)) in
     let to_front : at + front - at ≡ front = omega arith in
     let to_end : n - front - 0 ≡ n - front = omega arith in
-    let e : xs ≡ stretch at front memory = c.copy-from-slice.ensures.after ∙ ap (λ k. take k (drop at memory)) to_front in
-    let f : ys ≡ take (n - front) memory = c.copy-from-slice-2.ensures.after ∙ ap (λ k. take k memory) to_end in
+    let e : xs ≡ stretch at front memory = c.copy_from_slice.ensures.after ∙ ap (λ k. take k (drop at memory)) to_front in
+    let f : ys ≡ take (n - front) memory = c.copy_from_slice-2.ensures.after ∙ ap (λ k. take k memory) to_end in
     both_parts front c.args.out.now xs ys (omega arith) (omega arith) (omega arith)
     ∙ ap (λ zs. zs ++ ys) e
     ∙ ap (λ zs. stretch at front memory ++ zs) f

@@ -19,7 +19,7 @@ returns c =
     let from = c.args.from in
     let n = length c.args.out.now in
     let short : from + n - from ≡ n = omega arith in
-    let e = c.in-ok-check-copy-of-one.ensures.answers (take limit bytes) (omega (arith, length-take limit bytes)) in
-    let after = c.copy-from-slice.ensures.after ∙ ap (λ m. take m (drop from bytes)) short ∙ sym (stretch_take from n limit bytes (omega (arith, c.in-ok-check-copy-of-one.ensures.within))) in
+    let e = c.in_ok-check_copy_of_one.ensures.answers (take limit bytes) (omega (arith, length-take limit bytes)) in
+    let after = c.copy_from_slice.ensures.after ∙ ap (λ m. take m (drop from bytes)) short ∙ sym (stretch_take from n limit bytes (omega (arith, c.in_ok-check_copy_of_one.ensures.within))) in
     let q = accepted_one (take limit bytes) c.args.k from c.args.out.now _ e after in
     record { answers = q.answers; fills = q.fills }

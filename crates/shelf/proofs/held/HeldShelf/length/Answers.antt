@@ -5,4 +5,4 @@ use Rattle.shelf.proofs.held.HeldShelf.length.Goals as goal
 pub returns : goal.returns
 returns c =
     let bytes = c.args.self.now.bytes.now in
-    c.length-of-one.ensures (take limit bytes) (omega (arith, length-take limit bytes))
+    c.length_of_one.ensures (take limit bytes) (omega (arith, length-take limit bytes))

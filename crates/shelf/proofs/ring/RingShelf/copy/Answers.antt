@@ -20,7 +20,7 @@ returns c =
     let bytes = c.args.self.now.bytes.now in
     let start = c.args.self.now.start in
     let n = length c.args.out.now in
-    let e = c.in-ok-check-copy-of-one.ensures.answers (ring_text (take limit bytes) start) (omega (arith, length_ring (take limit bytes) start, length-take limit bytes)) in
+    let e = c.in_ok-check_copy_of_one.ensures.answers (ring_text (take limit bytes) start) (omega (arith, length_ring (take limit bytes) start, length-take limit bytes)) in
     let q = accepted_one (ring_text (take limit bytes) start) c.args.k c.args.from c.args.out.now _ e
-    (c.copy-around.ensures ∙ ap (λ memory. stretch c.args.from n (ring_text memory start)) (take_short _ limit bytes (omega arith))) in
+    (c.copy_around.ensures ∙ ap (λ memory. stretch c.args.from n (ring_text memory start)) (take_short _ limit bytes (omega arith))) in
     record { answers = q.answers; fills = q.fills }

@@ -8,4 +8,4 @@ pub returns : goal.returns
 returns c =
     let bytes = c.args.self.now.bytes.now in
     let start = c.args.self.now.start in
-    c.length-of-one.ensures (ring_text (take limit bytes) start) (omega (arith, length_ring (take limit bytes) start, length-take limit bytes))
+    c.length_of_one.ensures (ring_text (take limit bytes) start) (omega (arith, length_ring (take limit bytes) start, length-take limit bytes))
