@@ -2,8 +2,8 @@ use Rattle.std.proofs.Common.{length, sym, ◌∙◌, arith, length-take}
 use Rattle.ask.proofs.Fills.{len_is, piece_ends, piece_fills, sides_below, left_side, right_side, sizes, left_fills, right_fills, both_fill}
 use Rattle.ask.proofs.fill.+fill.Goals as goal
 
-pub overflow-add-start : goal.overflow-add-start
-overflow-add-start g t c =
+pub overflow_add-start : goal.overflow_add-start
+overflow_add-start g t c =
     let inside = c.requires.inside in
     let ends = piece_ends c.requires.readable c.in-Piece.is in
     let short = (g.S.Shelf.fit c.args.shelf.now).short c.in-Piece.text in
@@ -55,9 +55,9 @@ returns-then-n-size g t c =
     let fills = left_fills c.requires.readable c.in-Fork.is c.args.from (length c.args.out.now) (omega arith) in
     record { passes = c.fill-then-n-size.ensures.passes; fills = c.fill-then-n-size.ensures.fills ∙ fills }
 
-pub returns-in-ok-fill : goal.returns-in-ok-fill
-returns-in-ok-fill g t c = record {
+pub returns-in_ok-fill : goal.returns-in_ok-fill
+returns-in_ok-fill g t c = record {
   passes = c.fill-else-n-size-2.ensures.passes;
   fills = both_fill c.requires.readable c.in-Fork.is c.args.from _ c.args.out.now
-      c.fill-else-n-size.new.out c.fill-else-n-size-2.new.out (omega arith) (omega arith) c.in-ok-fill.ensures.fills c.fill-else-n-size.auto.out c.fill-else-n-size-2.ensures.fills;
+      c.fill-else-n-size.new.out c.fill-else-n-size-2.new.out (omega arith) (omega arith) c.in_ok-fill.ensures.fills c.fill-else-n-size.auto.out c.fill-else-n-size-2.ensures.fills;
 }

@@ -7,8 +7,8 @@ use Rattle.ask.proofs.Fills.{stands, len_is, length_bytes}
 use Rattle.ask.proofs.Places.{stands_inside, found_there, none_there, found_nowhere, found_first_place}
 use Rattle.ask.proofs.stream.stream.Goals as goal
 
-pub overflow-sub-end : goal.overflow-sub-end
-overflow-sub-end g c = let e = len_is c.requires.readable in let h = c.loop-at.invariant.2 in omega arith
+pub overflow_sub-end : goal.overflow_sub-end
+overflow_sub-end g c = let e = len_is c.requires.readable in let h = c.loop-at.invariant.2 in omega arith
 
 pub fill-requires : goal.fill-requires
 fill-requires g c =
@@ -16,14 +16,14 @@ fill-requires g c =
     let h = c.loop-at.invariant.2 in
     record { readable = c.requires.readable; inside = simp length-take (omega arith) }
 
-pub slice-bounds-seek-end : goal.slice-bounds-seek-end
-slice-bounds-seek-end g c =
+pub slice_bounds-seek-end : goal.slice_bounds-seek-end
+slice_bounds-seek-end g c =
     let n = c.min-n.result in
     let old = c.loop-at.window in
     omega (arith, length-append c.fill.new.out (post_of 0 (n - 0) old), c.fill.auto.out, length-take (n - 0) old, length-drop (n - 0) old)
 
-pub overflow-add-result : goal.overflow-add-result
-overflow-add-result g c =
+pub overflow_add-result : goal.overflow_add-result
+overflow_add-result g c =
     let e = len_is c.requires.readable in
     let short = (stands c.requires.readable).short in
     let h = c.loop-at.invariant.2 in
@@ -58,7 +58,7 @@ loop-at-preserved g c =
       omega arith,
       omega arith,
       none_there pattern c.requires.some s c.args.from at n c.loop-at.invariant.3 _ (omega arith)
-          (subst (λ (w : List ℕ). Found w 0 pattern None) window c.in-default.ensures),
+          (subst (λ (w : List ℕ). Found w 0 pattern None) window c.in_default.ensures),
     )
 
 pub returns : goal.returns

@@ -22,7 +22,7 @@ pub returns-in-Ok-read : goal.returns-in-Ok-read
 returns-in-Ok-read g c =
     let texts = g.S.Shelf.texts c.args.shelf.now in
     let book = view c.args.book.now in
-    let long : length c.as-mut-slice.result.now ≡ c.args.len = omega (arith, c.in-ok-bytes.ensures.len) in
+    let long : length c.as_mut_slice.result.now ≡ c.args.len = omega (arith, c.in_ok-bytes.ensures.len) in
     ap (λ n. book_step texts book (calls.read c.args.version c.args.from n (map length texts))) (sym long)
     ∙ c.in-Ok-read.ensures.steps
-    ∙ ap (λ bytes. (accepted (BookTold.bytes bytes), book)) (sym (take_at c.read.new.out _ _ (omega (arith, c.in-ok-bytes.ensures.len))))
+    ∙ ap (λ bytes. (accepted (BookTold.bytes bytes), book)) (sym (take_at c.read.new.out _ _ (omega (arith, c.in_ok-bytes.ensures.len))))

@@ -8,8 +8,8 @@ loop-call-init g c = loop_none _ _ _ _ _ _ _ _ c.new-answers.ensures.items
 
 pub loop-call-preserved : goal.loop-call-preserved
 loop-call-preserved g c =
-    loop_more _ _ _ _ _ _ _ _ _ _ _ _ _ _ c.loop-call.call-index _ _ _ c.in-ok-answer.answer (omega arith) c.loop-call.invariant
-    c.in-ok-answer.ensures (pushed {was = vec_items c.loop-call.answers} (c.in-ok-answer.answer ∷ []) refl c.in-ok-push.was c.push.ensures.items)
+    loop_more _ _ _ _ _ _ _ _ _ _ _ _ _ _ c.loop-call.call-index _ _ _ c.in_ok-answer.answer (omega arith) c.loop-call.invariant
+    c.in_ok-answer.ensures (pushed {was = vec_items c.loop-call.answers} (c.in_ok-answer.answer ∷ []) refl c.in_ok-push.was c.push.ensures.items)
 
 pub returns : goal.returns
 returns g c = loop_all _ _ _ _ _ _ _ _ _ _ _ c.loop-call.call-index _ (omega arith) c.loop-call.invariant

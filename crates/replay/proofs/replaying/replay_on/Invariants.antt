@@ -9,5 +9,5 @@ abbrev pub invariant-loop-call : goal.invariant-loop-call
 invariant-loop-call g l =
     Runs l.patterns (pick (g.S.Shelf.texts l.first) (g.T.Shelf.texts l.second))
     (rule_of g.P.Rule.value g.P.Rule.joined) (rule_of g.Q.Rule.value g.Q.Rule.joined)
-    (view l.initial.book) (view l.book) (sheet_view l.initial.first-sheet) (sheet_view l.first-sheet)
-    (sheet_view l.initial.second-sheet) (sheet_view l.second-sheet) (take l.call-index l.calls) (vec_items l.answers)
+    (view l.initial.book) (view l.book) (sheet_view l.initial.first_sheet) (sheet_view l.first_sheet)
+    (sheet_view l.initial.second_sheet) (sheet_view l.second_sheet) (take l.call-index l.calls) (vec_items l.answers)

@@ -5,5 +5,5 @@ use Rattle.runner.proofs.telling.tell.Goals as goal
 
 pub returns : goal.returns
 returns c =
-    prints (line_of c.args.answer) c.args.out.now c.print-answer.new.out c.print-answer.result c.unwrap-or.result
-    (omega (arith, c.requires, c.print-answer.ensures.short)) c.print-answer.ensures.end c.print-answer.ensures.buffer c.unwrap-or.ensures
+    prints (line_of c.args.answer) c.args.out.now c.print_answer.new.out c.print_answer.result c.unwrap_or.result
+    (omega (arith, c.requires, c.print_answer.ensures.short)) c.print_answer.ensures.end c.print_answer.ensures.buffer c.unwrap_or.ensures

@@ -4,5 +4,5 @@ use Rattle.script.proofs.buffer.put.Goals as goal
 
 pub returns : goal.returns
 returns c =
-    let p = done c.args.at c.args.bytes.now c.args.out.now (omega arith) c.put-bytes.ensures in
+    let p = done c.args.at c.args.bytes.now c.args.out.now (omega arith) c.put_bytes.ensures in
     record { end = p.0; buffer = p.1 }

@@ -6,8 +6,8 @@ pub returns : goal.returns
 returns c =
     let at = c.args.at in
     let out = c.args.out.now in
-    let part = c.copy-from-slice.new.self in
-    let same = c.copy-from-slice.ensures.after in
+    let part = c.copy_from_slice.new.self in
+    let same = c.copy_from_slice.ensures.after in
     let count : length part ≡ length c.args.bytes.now = ap length same in
     record {
       ends = refl;

@@ -9,5 +9,5 @@ returns c =
     let line = printed c.args.items.now in
     let out = c.args.out.now in
     let room = leb-true (length line) (length out - c.args.at) (sym c.if-not-fits.ensures) in
-    let p = done c.args.at line out (omega arith) c.put-line.ensures in
+    let p = done c.args.at line out (omega arith) c.put_line.ensures in
     record { end = p.0; buffer = p.1 }

@@ -10,13 +10,13 @@ use Rattle.script.proofs.items.put_line.Goals.{then-i-items, else-i-items}
 pub loop-i-init : goal.loop-i-init
 loop-i-init c = ([], at_rest c.args.at c.args.out.now, refl)
 
-pub put-item-place-requires : goal.put-item-place-requires
-put-item-place-requires c =
+pub put_item-place-requires : goal.put_item-place-requires
+put_item-place-requires c =
     let inv = c.loop-i.invariant in
     omega (arith, inv.1.ends, simp length-append at (ap length inv.2), length_more c.args.items.now c.loop-i.i (Word Kept) c.loop-i-test.true)
 
-pub put-byte-place-requires : goal.put-byte-place-requires
-put-byte-place-requires c =
+pub put_byte-place-requires : goal.put_byte-place-requires
+put_byte-place-requires c =
     let inv = c.loop-i.invariant in
     omega (arith, inv.1.ends, simp length-append at (ap length inv.2), length_more c.args.items.now c.loop-i.i (Word Kept) c.loop-i-test.true)
 
@@ -32,7 +32,7 @@ loop-i-preserved c =
     ] in
     let here = spelled (get_or items i (Word Kept)) ++ separator (drop (i + 1) items) ∷ [] in (
       inv.0 ++ here,
-      and_then inv.1 (and_then c.put-item-place.ensures (alike (ap (λ b. b ∷ []) behind) c.put-byte-place.ensures)),
+      and_then inv.1 (and_then c.put_item-place.ensures (alike (ap (λ b. b ∷ []) behind) c.put_byte-place.ensures)),
       append_assoc inv.0 here (printed (drop (i + 1) items)) ∙ ap (λ l. inv.0 ++ l) (sym (item_more items i (Word Kept) c.loop-i-test.true)) ∙ inv.2,
     )
 

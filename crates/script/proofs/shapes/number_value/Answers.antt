@@ -4,11 +4,11 @@ use Rattle.script.specs.Shapes.{value}
 use Rattle.script.proofs.Digits.{digit_first, ten_digits, ten_more, ten_most}
 use Rattle.script.proofs.shapes.number_value.Goals as goal
 
-pub overflow-sub-written : goal.overflow-sub-written
-overflow-sub-written c = (digit_first _ _ c.loop-byte-test.true c.loop-byte.invariant.1).0
+pub overflow_sub-written : goal.overflow_sub-written
+overflow_sub-written c = (digit_first _ _ c.loop-byte-test.true c.loop-byte.invariant.1).0
 
-pub overflow-add-written : goal.overflow-add-written
-overflow-add-written c =
+pub overflow_add-written : goal.overflow_add-written
+overflow_add-written c =
     let d = digit_first _ _ c.loop-byte-test.true c.loop-byte.invariant.1 in
     let few = ten_digits c.args.token.now c.requires in
     omega (arith, ten_most (c.loop-byte.byte-index + 1) (omega arith), ten_more c.loop-byte.byte-index)

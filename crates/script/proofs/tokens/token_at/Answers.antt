@@ -21,12 +21,12 @@ loop-end-init c = (
 
 pub loop-end-preserved : goal.loop-end-preserved
 loop-end-preserved c =
-    let e = at_more _ _ c.loop-end-test.true c.loop-start.start c.loop-end.quoted (sym c.if-not-ends-token.ensures) in
+    let e = at_more _ _ c.loop-end-test.true c.loop-start.start c.loop-end.quoted (sym c.if-not-ends_token.ensures) in
     (omega arith, omega arith, cc)
 
-pub returns-else-not-ends-token : goal.returns-else-not-ends-token
-returns-else-not-ends-token c = record {
-  first = c.loop-end.invariant.2 ∙ at_last _ _ c.loop-end-test.true _ _ (sym c.if-not-ends-token.ensures);
+pub returns-else-not-ends_token : goal.returns-else-not-ends_token
+returns-else-not-ends_token c = record {
+  first = c.loop-end.invariant.2 ∙ at_last _ _ c.loop-end-test.true _ _ (sym c.if-not-ends_token.ensures);
   inside = record { some = omega arith; within = omega arith };
 }
 

@@ -5,8 +5,8 @@ use Rattle.rule.proofs.Joining.{block_joins}
 use Rattle.sheet.proofs.Told.{told}
 use Rattle.sheet.proofs.pieces.piece_value.Goals as goal
 
-pub overflow-add-from : goal.overflow-add-from
-overflow-add-from g c =
+pub overflow_add-from : goal.overflow_add-from
+overflow_add-from g c =
     let ends = c.requires.ends in
     omega (arith, (g.S.Shelf.fit c.args.shelf.now).short c.args.k)
 
@@ -22,8 +22,8 @@ loop-done-preserved g c =
     let short : length rest ≤ limit = simp length-drop (omega (arith, (g.S.Shelf.fit c.args.shelf.now).short c.args.k)) in
     let next : stretch (c.args.from + done) (length (take (count - 0) c.loop-done.block)) bytes ≡ take count (drop done rest) =
     rw (part, drop-drop done c.args.from bytes) in
-    let more = told c.in-ok-more.ensures ∙ ap value next in (
+    let more = told c.in_ok-more.ensures ∙ ap value next in (
       omega arith,
-      length-append c.block-value.new.block _ ∙ omega (arith, part, c.block-value.auto.block, length-drop (count - 0) c.loop-done.block),
+      length-append c.block_value.new.block _ ∙ omega (arith, part, c.block_value.auto.block, length-drop (count - 0) c.loop-done.block),
       c.join-value.ensures ∙ ap₂ joined c.loop-done.invariant.2 more ∙ block_joins value joined g.met.R.Rule.joins rest done count short,
     )

@@ -7,14 +7,14 @@ use Rattle.sheet.proofs.Told.{told}
 use Rattle.sheet.proofs.Stretches.{whole, of_piece, to_left, to_right, to_both}
 use Rattle.sheet.proofs.values.+stretch_value.Goals as goal
 
-pub overflow-add-start : goal.overflow-add-start
-overflow-add-start g t c =
+pub overflow_add-start : goal.overflow_add-start
+overflow_add-start g t c =
     let p = leaf_at c.requires.readable c.requires.slot.0 c.in-Piece.is in
     let ends = p.lies.ends in
     omega (arith, (g.S.Shelf.fit c.args.shelf.now).short c.in-Piece.text)
 
-pub piece-value-requires : goal.piece-value-requires
-piece-value-requires g t c =
+pub piece_value-requires : goal.piece_value-requires
+piece_value-requires g t c =
     let p = leaf_at c.requires.readable c.requires.slot.0 c.in-Piece.is in
     let ends = p.lies.ends in
     record { there = p.lies.there; ends = omega arith }
@@ -25,7 +25,7 @@ returns-in-Piece g t c =
     let rule = rule_of g.R.Rule.value g.R.Rule.joined in
     let values = c.args.values.now in
     let p = leaf_at c.requires.readable c.requires.slot.0 c.in-Piece.is in
-    c.piece-value.ensures
+    c.piece_value.ensures
     ∙ ap Ok (sym (of_piece texts rule values c.args.slot c.in-Piece.text c.in-Piece.start _ c.args.from c.args.len c.if-len-nodes.false))
     ∙ ap (λ t. Ok (stretch_value texts rule values t c.args.from c.args.len)) (sym p.is)
 
@@ -34,35 +34,35 @@ bounds-nodes-left g t c =
     let n = node_at c.requires.readable c.requires.slot.0 c.in-Fork.is in
     let low = c.requires.slot.0 in omega arith
 
-pub overflow-add-from : goal.overflow-add-from
-overflow-add-from g t c = let n = node_at c.requires.readable c.requires.slot.0 c.in-Fork.is in omega arith
+pub overflow_add-from : goal.overflow_add-from
+overflow_add-from g t c = let n = node_at c.requires.readable c.requires.slot.0 c.in-Fork.is in omega arith
 
-pub overflow-add-from-else-front-from : goal.overflow-add-from-else-front-from
-overflow-add-from-else-front-from g t c = let n = node_at c.requires.readable c.requires.slot.0 c.in-Fork.is in omega arith
+pub overflow_add-from-else-front-from : goal.overflow_add-from-else-front-from
+overflow_add-from-else-front-from g t c = let n = node_at c.requires.readable c.requires.slot.0 c.in-Fork.is in omega arith
 
-pub stretch-value-requires : goal.stretch-value-requires
-stretch-value-requires g t c κs within =
+pub stretch_value-requires : goal.stretch_value-requires
+stretch_value-requires g t c κs within =
     let n = node_at c.requires.readable c.requires.slot.0 c.in-Fork.is in
     let low = c.requires.slot.0 in
     let fits = c.requires.slot.1 in
     (omega (arith, c.decreases), (within.0, (within.1.0, (within.1.1, (c.requires.readable, ((omega arith, omega arith), omega arith))))))
 
-pub stretch-value-requires-then-front-from : goal.stretch-value-requires-then-front-from
-stretch-value-requires-then-front-from g t c κs within =
+pub stretch_value-requires-then-front-from : goal.stretch_value-requires-then-front-from
+stretch_value-requires-then-front-from g t c κs within =
     let n = node_at c.requires.readable c.requires.slot.0 c.in-Fork.is in
     let low = c.requires.slot.0 in
     let fits = c.requires.slot.1 in
     (omega (arith, c.decreases), (within.0, (within.1.0, (within.1.1, (c.requires.readable, ((omega arith, omega arith), omega arith))))))
 
-pub stretch-value-requires-else-front-from : goal.stretch-value-requires-else-front-from
-stretch-value-requires-else-front-from g t c κs within =
+pub stretch_value-requires-else-front-from : goal.stretch_value-requires-else-front-from
+stretch_value-requires-else-front-from g t c κs within =
     let n = node_at c.requires.readable c.requires.slot.0 c.in-Fork.is in
     let low = c.requires.slot.0 in
     let fits = c.requires.slot.1 in
     (omega (arith, c.decreases), (within.0, (within.1.0, (within.1.1, (c.requires.readable, ((omega arith, omega arith), omega arith))))))
 
-pub stretch-value-requires-else-front-from-2 : goal.stretch-value-requires-else-front-from-2
-stretch-value-requires-else-front-from-2 g t c κs within =
+pub stretch_value-requires-else-front-from-2 : goal.stretch_value-requires-else-front-from-2
+stretch_value-requires-else-front-from-2 g t c κs within =
     let n = node_at c.requires.readable c.requires.slot.0 c.in-Fork.is in
     let low = c.requires.slot.0 in
     let fits = c.requires.slot.1 in
@@ -88,13 +88,13 @@ returns-then-front-from g t c =
     let texts = g.S.Shelf.texts c.args.shelf.now in
     let rule = rule_of g.R.Rule.value g.R.Rule.joined in
     let n = node_at c.requires.readable c.requires.slot.0 c.in-Fork.is in
-    c.stretch-value-then-front-from.ensures
+    c.stretch_value-then-front-from.ensures
     ∙ ap Ok (sym (to_right texts rule c.args.values.now n c.args.from c.args.len c.if-len-nodes.false c.if-from-len.false c.if-front-from.true))
 
-pub returns-in-ok-second : goal.returns-in-ok-second
-returns-in-ok-second g t c =
+pub returns-in_ok-second : goal.returns-in_ok-second
+returns-in_ok-second g t c =
     let texts = g.S.Shelf.texts c.args.shelf.now in
     let rule = rule_of g.R.Rule.value g.R.Rule.joined in
     let n = node_at c.requires.readable c.requires.slot.0 c.in-Fork.is in
     let both = to_both texts rule c.args.values.now n c.args.from c.args.len c.if-len-nodes.false c.if-from-len.false c.if-front-from.false in
-    ap Ok (c.join.ensures ∙ ap₂ g.R.Rule.joined (told c.in-ok-first.ensures) (told c.in-ok-second.ensures) ∙ sym both)
+    ap Ok (c.join.ensures ∙ ap₂ g.R.Rule.joined (told c.in_ok-first.ensures) (told c.in_ok-second.ensures) ∙ sym both)

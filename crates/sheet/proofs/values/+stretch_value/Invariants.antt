@@ -1,4 +1,4 @@
 use Rattle.sheet.proofs.values.+stretch_value.Given as goal
 
-abbrev pub decreases-stretch-value : goal.decreases-stretch-value
-decreases-stretch-value g l = l.slot
+abbrev pub decreases-stretch_value : goal.decreases-stretch_value
+decreases-stretch_value g l = l.slot

@@ -9,6 +9,6 @@ loop-slot-preserved g c =
     let texts = g.S.Shelf.texts c.args.shelf.now in
     let rule = rule_of g.R.Rule.value g.R.Rule.joined in
     let nodes = c.args.nodes.now in
-    filled_more texts rule nodes c.loop-slot.values c.loop-slot.slot (length nodes) c.in-ok-values.field-0 c.loop-slot-test.true
-    (told c.in-ok-values.ensures)
+    filled_more texts rule nodes c.loop-slot.values c.loop-slot.slot (length nodes) c.in_ok-values.field-0 c.loop-slot-test.true
+    (told c.in_ok-values.ensures)
     ∙ c.loop-slot.invariant

@@ -5,8 +5,8 @@ use Rattle.sheet.specs.Reading.{rule_of}
 use Rattle.sheet.proofs.Slots.{leaf_at, node_at}
 use Rattle.sheet.proofs.values.slot_value.Goals as goal
 
-pub piece-value-requires : goal.piece-value-requires
-piece-value-requires g c = (leaf_at c.requires.readable c.requires.slot.0 c.in-Piece.is).lies
+pub piece_value-requires : goal.piece_value-requires
+piece_value-requires g c = (leaf_at c.requires.readable c.requires.slot.0 c.in-Piece.is).lies
 
 pub offset-bounds-values-left : goal.offset-bounds-values-left
 offset-bounds-values-left g c =
@@ -33,7 +33,7 @@ returns-in-Piece g c =
     let texts = g.S.Shelf.texts c.args.shelf.now in
     let rule = rule_of g.R.Rule.value g.R.Rule.joined in
     let p = leaf_at c.requires.readable c.requires.slot.0 c.in-Piece.is in
-    c.piece-value.ensures ∙ ap (λ t. Ok (tree_value texts rule c.args.values.now t)) (sym p.is)
+    c.piece_value.ensures ∙ ap (λ t. Ok (tree_value texts rule c.args.values.now t)) (sym p.is)
 
 pub returns-in-Fork : goal.returns-in-Fork
 returns-in-Fork g c =

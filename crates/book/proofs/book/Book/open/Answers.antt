@@ -9,11 +9,11 @@ returns-then-version-contents c =
     let b = c.args.self.now in
     open_missing (tested (store b.nodes.now b.places) b.contents b.sound) c.args.version c.if-version-contents.true
 
-pub returns-then-is-some : goal.returns-then-is-some
-returns-then-is-some c =
+pub returns-then-is_some : goal.returns-then-is_some
+returns-then-is_some c =
     let b = c.args.self.now in
     open_blocked (tested (store b.nodes.now b.places) b.contents b.sound) c.args.version c.if-version-contents.false
-    (sym c.is-some.ensures ∙ c.if-is-some.true)
+    (sym c.is_some.ensures ∙ c.if-is_some.true)
 
 pub offset-bounds-contents-version : goal.offset-bounds-contents-version
 offset-bounds-contents-version c =
@@ -25,15 +25,15 @@ bounds-contents-version c =
     let b = c.args.self.now in
     omega (arith, (tested (store b.nodes.now b.places) b.contents b.sound).orderly.most_kept)
 
-pub invariant-of-self-2 : goal.invariant-of-self-2
-invariant-of-self-2 c =
+pub invariant_of-self-2 : goal.invariant_of-self-2
+invariant_of-self-2 c =
     let b = c.args.self.now in
-    let e = none_is b.contents.draft (sym c.is-some.ensures ∙ c.if-is-some.false) in
+    let e = none_is b.contents.draft (sym c.is_some.ensures ∙ c.if-is_some.false) in
     ((open_steps b.contents (with_draft {s = store b.nodes.now b.places} b.contents e b.sound) c.args.version c.if-version-contents.false).keeps, tt)
 
 pub returns : goal.returns
 returns c =
     let b = c.args.self.now in
-    let e = none_is b.contents.draft (sym c.is-some.ensures ∙ c.if-is-some.false) in
+    let e = none_is b.contents.draft (sym c.is_some.ensures ∙ c.if-is_some.false) in
     (steps_from {s = store b.nodes.now b.places} b.contents e
     (open_steps b.contents (with_draft b.contents e b.sound) c.args.version c.if-version-contents.false)).steps

@@ -11,13 +11,13 @@ pub returns : goal.returns
 returns c =
     let b = c.args.self.now in
     let s = store b.nodes.now b.places in
-    let e = c.settled-count-count.ensures in
-    let z : settled b.places.used b.contents.draft ≡ c.settled-count-count.result - 0 = omega arith in
+    let e = c.settled_count-count.ensures in
+    let z : settled b.places.used b.contents.draft ≡ c.settled_count-count.result - 0 = omega arith in
     subst (λ (k : ℕ). Settled (view_of (store b.nodes.now b.places) b.contents) (take k b.nodes.now)) z
     (settled_records (tested (store b.nodes.now b.places) b.contents b.sound))
 
-pub slice-bounds-result-end : goal.slice-bounds-result-end
-slice-bounds-result-end c =
+pub slice_bounds-result-end : goal.slice_bounds-result-end
+slice_bounds-result-end c =
     let b = c.args.self.now in
-    let e = c.settled-count-count.ensures in
+    let e = c.settled_count-count.ensures in
     omega (arith, settled_within (tested (store b.nodes.now b.places) b.contents b.sound))

@@ -2,8 +2,8 @@ use Rattle.book.specs.Records.{store}
 use Rattle.book.proofs.Calls.{with_draft, steps_from, toss_steps}
 use Rattle.book.proofs.book.Book.toss.Goals as goal
 
-pub invariant-of-self-2 : goal.invariant-of-self-2
-invariant-of-self-2 c =
+pub invariant_of-self-2 : goal.invariant_of-self-2
+invariant_of-self-2 c =
     let b = c.args.self.now in
     ((toss_steps b.contents c.in-Some.draft (with_draft {s = store b.nodes.now b.places} b.contents c.in-Some.is b.sound)).keeps, tt)
 

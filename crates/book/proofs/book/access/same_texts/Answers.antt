@@ -12,14 +12,14 @@ returns-then-count-contents g c =
     (λ e. let n : length (noted p) ≡ length (map (length {A = ℕ}) ts) = ap length e in
     c.if-count-contents.true (omega (arith, length-take p.count p.lens, length-map ts (length {A = ℕ}), c.requires.fit)))
 
-pub returns-then-unwrap-or-contents : goal.returns-then-unwrap-or-contents
-returns-then-unwrap-or-contents g c =
+pub returns-then-unwrap_or-contents : goal.returns-then-unwrap_or-contents
+returns-then-unwrap_or-contents g c =
     let ts = g.S.Shelf.texts c.args.shelf.now in
     let p = c.args.contents.now in
     let k = c.loop-k.k in
     same_false (noted p) (map length ts)
-    (λ e. c.if-unwrap-or-contents.true
-    (length_told ts k c.unwrap-or.result c.length.result (omega arith) c.length.ensures c.unwrap-or.ensures
+    (λ e. c.if-unwrap_or-contents.true
+    (length_told ts k c.unwrap_or.result c.length.result (omega arith) c.length.ensures c.unwrap_or.ensures
     ∙ ap (λ x. get_or x k 0) (sym e) ∙ get_or-take p.count p.lens k 0 (omega arith)))
 
 pub loop-k-preserved : goal.loop-k-preserved
@@ -28,8 +28,8 @@ loop-k-preserved g c =
     let p = c.args.contents.now in
     let k = c.loop-k.k in
     take_more_same (noted p) (map length ts) k 0 (omega (arith, length-take p.count p.lens, c.requires.fit)) (omega (arith, length-map ts (length {A = ℕ}))) c.loop-k.invariant
-    (get_or-take p.count p.lens k 0 (omega arith) ∙ sym c.if-unwrap-or-contents.false
-    ∙ length_told ts k c.unwrap-or.result c.length.result (omega arith) c.length.ensures c.unwrap-or.ensures)
+    (get_or-take p.count p.lens k 0 (omega arith) ∙ sym c.if-unwrap_or-contents.false
+    ∙ length_told ts k c.unwrap_or.result c.length.result (omega arith) c.length.ensures c.unwrap_or.ensures)
 
 pub returns : goal.returns
 returns g c =

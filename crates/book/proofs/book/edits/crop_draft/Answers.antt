@@ -4,8 +4,8 @@ use Rattle.book.specs.Records.{store}
 use Rattle.book.proofs.EditRows.{begins, edit_does, crop_passes}
 use Rattle.book.proofs.book.edits.crop_draft.Goals as goal
 
-pub size-of-size-requires : goal.size-of-size-requires
-size-of-size-requires c =
+pub size_of-size-requires : goal.size_of-size-requires
+size_of-size-requires c =
     let g = begins (store c.args.nodes.now c.args.places.now) c.args.contents.now c.in-Some.draft c.in-Some.is c.requires in
     record { ready = g.whole.ready; root = g.whole.orderly.drafted.0 }
 
@@ -13,4 +13,4 @@ pub returns : goal.returns
 returns c =
     let g = begins (store c.args.nodes.now c.args.places.now) c.args.contents.now c.in-Some.draft c.in-Some.is c.requires in
     edit_does g (Edit.crop c.args.from c.args.len) tt
-    (crop_passes g c.size-of-size.result c.size-of-size.ensures.is c.args.from c.args.len (omega arith)) c.redraft.result c.redraft.ensures
+    (crop_passes g c.size_of-size.result c.size_of-size.ensures.is c.args.from c.args.len (omega arith)) c.redraft.result c.redraft.ensures

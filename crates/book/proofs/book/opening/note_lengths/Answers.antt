@@ -8,7 +8,7 @@ loop-k-preserved g c =
     let ts = g.S.Shelf.texts c.args.shelf.now in
     let f = g.S.Shelf.fit c.args.shelf.now in (
       length-set c.loop-k.lens c.loop-k.k _ ∙ c.loop-k.invariant.0,
-      note_more ts c.loop-k.k c.unwrap-or.result c.length.result (omega arith) c.length.ensures c.unwrap-or.ensures c.loop-k.lens
+      note_more ts c.loop-k.k c.unwrap_or.result c.length.result (omega arith) c.length.ensures c.unwrap_or.ensures c.loop-k.lens
           (omega (arith, f.few)) c.loop-k.invariant.1,
     )
 

@@ -9,12 +9,12 @@ returns-then-nodes-slot c = end_halves c.args.root c.in-Some.slot c.args.place c
 pub split-requires : goal.split-requires
 split-requires c = is_inside c.args.root c.in-Some.slot c.args.place c.requires.ready c.requires.root c.in-Some.is (omega (arith, c.if-place-eq0.false)) c.if-nodes-slot.false
 
-pub returns-in-err-parts : goal.returns-in-err-parts
-returns-in-err-parts c =
-    let p = err_from_is_err_and c.from-residual.result c.from-residual.ensures.1 in
+pub returns-in_err-parts : goal.returns-in_err-parts
+returns-in_err-parts c =
+    let p = err_from_is_err_and c.from_residual.result c.from_residual.ensures.1 in
     rw p.1 (inside_fails c.args.root c.in-Some.slot c.args.place c.requires.ready c.requires.root c.in-Some.is (omega (arith, c.if-place-eq0.false)) c.if-nodes-slot.false
-    c.in-err-parts.ensures.case)
+    c.in_err-parts.ensures.case)
 
 pub returns : goal.returns
 returns c = inside_halves c.args.root c.in-Some.slot c.args.place c.requires.ready c.requires.root c.in-Some.is (omega (arith, c.if-place-eq0.false)) c.if-nodes-slot.false
-    c.in-ok-parts.parts c.in-ok-parts.ensures.case
+    c.in_ok-parts.parts c.in_ok-parts.ensures.case

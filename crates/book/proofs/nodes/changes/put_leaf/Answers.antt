@@ -4,15 +4,15 @@ use Rattle.book.proofs.nodes.changes.put_leaf.Goals as goal
 
 pub put-requires : goal.put-requires
 put-requires c = leaf_two c.args.root c.args.place c.args.text c.args.start c.args.len c.requires.ready c.requires.root c.requires.short
-    c.in-ok-piece.piece c.in-ok-piece.ensures.case
+    c.in_ok-piece.piece c.in_ok-piece.ensures.case
 
-pub returns-in-err-whole : goal.returns-in-err-whole
-returns-in-err-whole c =
-    let p = err_from_is_err_and c.from-residual-in-err-whole.result c.from-residual-in-err-whole.ensures.1 in
+pub returns-in_err-whole : goal.returns-in_err-whole
+returns-in_err-whole c =
+    let p = err_from_is_err_and c.from_residual-in_err-whole.result c.from_residual-in_err-whole.ensures.1 in
     rw p.1 (leaf_fails c.args.root c.args.place c.args.text c.args.start c.args.len c.requires.ready c.requires.root c.requires.short
-    c.in-ok-piece.piece c.in-ok-piece.ensures.case c.in-err-whole.ensures.case)
+    c.in_ok-piece.piece c.in_ok-piece.ensures.case c.in_err-whole.ensures.case)
 
 pub returns : goal.returns
 returns c = leaf_done c.args.root c.args.place c.args.text c.args.start c.args.len c.requires.ready c.requires.root c.requires.short
-    c.in-ok-piece.piece c.in-ok-piece.ensures.case
-    c.in-ok-whole.whole c.in-ok-whole.ensures.case
+    c.in_ok-piece.piece c.in_ok-piece.ensures.case
+    c.in_ok-whole.whole c.in_ok-whole.ensures.case

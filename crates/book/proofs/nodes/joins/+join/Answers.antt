@@ -21,28 +21,28 @@ join-requires t c = (
       c.order-x.result c.order-x.ensures,
 )
 
-pub returns-in-err-t : goal.returns-in-err-t
-returns-in-err-t t c =
-    let p = err_from_is_err_and c.from-residual.result c.from-residual.ensures.1 in
+pub returns-in_err-t : goal.returns-in_err-t
+returns-in_err-t t c =
+    let p = err_from_is_err_and c.from_residual.result c.from_residual.ensures.1 in
     rw p.1 (inner_fails c.in-Some.side c.args.left c.args.right c.requires c.in-Some.ensures c.order-high.result c.order-high.ensures c.sides-a.result c.sides-a.ensures
-    c.order-x.result c.order-x.ensures c.in-err-t.ensures.case)
+    c.order-x.result c.order-x.ensures c.in_err-t.ensures.case)
 
 pub lean-requires : goal.lean-requires
 lean-requires t c = leaning c.in-Some.side c.args.left c.args.right c.requires c.in-Some.ensures c.order-high.result c.order-high.ensures c.sides-a.result c.sides-a.ensures
     c.order-x.result c.order-x.ensures
-    c.in-ok-t.t c.in-ok-t.ensures.case
+    c.in_ok-t.t c.in_ok-t.ensures.case
 
-pub returns-in-err-top : goal.returns-in-err-top
-returns-in-err-top t c =
-    let p = err_from_is_err_and c.from-residual-in-err-top.result c.from-residual-in-err-top.ensures.1 in
+pub returns-in_err-top : goal.returns-in_err-top
+returns-in_err-top t c =
+    let p = err_from_is_err_and c.from_residual-in_err-top.result c.from_residual-in_err-top.ensures.1 in
     rw p.1 (top_fails c.in-Some.side c.args.left c.args.right c.requires c.in-Some.ensures c.order-high.result c.order-high.ensures c.sides-a.result c.sides-a.ensures
     c.order-x.result c.order-x.ensures
-    c.in-ok-t.t c.in-ok-t.ensures.case c.in-err-top.ensures.case)
+    c.in_ok-t.t c.in_ok-t.ensures.case c.in_err-top.ensures.case)
 
 pub returns-in-None : goal.returns-in-None
 returns-in-None t c = level_done c.args.left c.args.right c.requires c.in-None.ensures c.fork.ensures
 
-pub returns-in-ok-top : goal.returns-in-ok-top
-returns-in-ok-top t c = join_done c.in-Some.side c.args.left c.args.right c.requires c.in-Some.ensures c.order-high.result c.order-high.ensures c.sides-a.result c.sides-a.ensures
+pub returns-in_ok-top : goal.returns-in_ok-top
+returns-in_ok-top t c = join_done c.in-Some.side c.args.left c.args.right c.requires c.in-Some.ensures c.order-high.result c.order-high.ensures c.sides-a.result c.sides-a.ensures
     c.order-x.result c.order-x.ensures
-    c.in-ok-t.t c.in-ok-t.ensures.case c.in-ok-top.top c.then.result c.in-ok-top.ensures.case c.then.ensures
+    c.in_ok-t.t c.in_ok-t.ensures.case c.in_ok-top.top c.then.result c.in_ok-top.ensures.case c.then.ensures

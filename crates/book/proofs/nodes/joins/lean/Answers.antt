@@ -12,12 +12,12 @@ sides-e-requires c =
     let h = sides_held (tree_side c.args.side) c.args.t c.sides-c.result c.requires.pair.ready c.requires.pair.right c.sides-c.ensures in
     let w = c.requires.pair.ready.within in omega arith
 
-pub overflow-add-a-height : goal.overflow-add-a-height
-overflow-add-a-height c =
+pub overflow_add-a_height : goal.overflow_add-a_height
+overflow_add-a_height c =
     let k = stands_at c.requires.pair.ready c.args.a c.requires.pair.left in omega (arith, low _ k.balanced k.filled k.short)
 
 pub fork-requires : goal.fork-requires
-fork-requires c = plain_level (tree_side c.args.side) c.args.a c.args.t c.requires c.if-t-height-a-height.true
+fork-requires c = plain_level (tree_side c.args.side) c.args.a c.args.t c.requires c.if-t_height-a_height.true
 
 pub bounds-nodes-c : goal.bounds-nodes-c
 bounds-nodes-c c =
@@ -29,47 +29,47 @@ bounds-nodes-d c =
     let h = sides_held (tree_side c.args.side) c.args.t c.sides-c.result c.requires.pair.ready c.requires.pair.right c.sides-c.ensures in
     let w = c.requires.pair.ready.within in omega arith
 
-pub fork-requires-in-default-2 : goal.fork-requires-in-default-2
-fork-requires-in-default-2 c =
-    once_inner (tree_side c.args.side) c.args.a c.args.t c.requires c.sides-c.result c.sides-c.ensures c.if-t-height-a-height.false c.if-c-height-d-height.true
+pub fork-requires-in_default-2 : goal.fork-requires-in_default-2
+fork-requires-in_default-2 c =
+    once_inner (tree_side c.args.side) c.args.a c.args.t c.requires c.sides-c.result c.sides-c.ensures c.if-t_height-a_height.false c.if-c_height-d_height.true
 
-pub fork-requires-in-default-2-2 : goal.fork-requires-in-default-2-2
-fork-requires-in-default-2-2 c =
-    once_outer (tree_side c.args.side) c.args.a c.args.t c.requires c.sides-c.result c.sides-c.ensures c.if-t-height-a-height.false c.if-c-height-d-height.true
-    c.in-ok-inner.inner c.in-ok-inner.ensures.case
+pub fork-requires-in_default-2-2 : goal.fork-requires-in_default-2-2
+fork-requires-in_default-2-2 c =
+    once_outer (tree_side c.args.side) c.args.a c.args.t c.requires c.sides-c.result c.sides-c.ensures c.if-t_height-a_height.false c.if-c_height-d_height.true
+    c.in_ok-inner.inner c.in_ok-inner.ensures.case
 
-pub returns-in-err-outer : goal.returns-in-err-outer
-returns-in-err-outer c =
-    let p = err_from_is_err_and c.from-residual-in-err-outer.result c.from-residual-in-err-outer.ensures.1 in
+pub returns-in_err-outer : goal.returns-in_err-outer
+returns-in_err-outer c =
+    let p = err_from_is_err_and c.from_residual-in_err-outer.result c.from_residual-in_err-outer.ensures.1 in
     rw p.1
-    (once_fails (tree_side c.args.side) c.args.a c.args.t c.requires c.sides-c.result c.sides-c.ensures c.if-t-height-a-height.false c.if-c-height-d-height.true
-    c.in-ok-inner.inner c.in-ok-inner.ensures.case c.in-err-outer.ensures.case)
+    (once_fails (tree_side c.args.side) c.args.a c.args.t c.requires c.sides-c.result c.sides-c.ensures c.if-t_height-a_height.false c.if-c_height-d_height.true
+    c.in_ok-inner.inner c.in_ok-inner.ensures.case c.in_err-outer.ensures.case)
 
-pub fork-four-requires : goal.fork-four-requires
-fork-four-requires c =
-    four_left (tree_side c.args.side) c.args.a c.args.t c.requires c.sides-c.result c.sides-c.ensures c.if-t-height-a-height.false
-    c.sides-e.result c.sides-e.ensures c.if-c-height-d-height.false
+pub fork_four-requires : goal.fork_four-requires
+fork_four-requires c =
+    four_left (tree_side c.args.side) c.args.a c.args.t c.requires c.sides-c.result c.sides-c.ensures c.if-t_height-a_height.false
+    c.sides-e.result c.sides-e.ensures c.if-c_height-d_height.false
 
-pub fork-four-requires-in-Right : goal.fork-four-requires-in-Right
-fork-four-requires-in-Right c =
-    four_right (tree_side c.args.side) c.args.a c.args.t c.requires c.sides-c.result c.sides-c.ensures c.if-t-height-a-height.false
-    c.sides-e.result c.sides-e.ensures c.if-c-height-d-height.false
+pub fork_four-requires-in-Right : goal.fork_four-requires-in-Right
+fork_four-requires-in-Right c =
+    four_right (tree_side c.args.side) c.args.a c.args.t c.requires c.sides-c.result c.sides-c.ensures c.if-t_height-a_height.false
+    c.sides-e.result c.sides-e.ensures c.if-c_height-d_height.false
 
-pub returns-then-t-height-a-height : goal.returns-then-t-height-a-height
-returns-then-t-height-a-height c = plain_done (tree_side c.args.side) c.args.a c.args.t c.requires c.if-t-height-a-height.true c.fork.ensures
+pub returns-then-t_height-a_height : goal.returns-then-t_height-a_height
+returns-then-t_height-a_height c = plain_done (tree_side c.args.side) c.args.a c.args.t c.requires c.if-t_height-a_height.true c.fork.ensures
 
-pub returns-in-ok-outer : goal.returns-in-ok-outer
-returns-in-ok-outer c =
-    once_done (tree_side c.args.side) c.args.a c.args.t c.requires c.sides-c.result c.sides-c.ensures c.if-t-height-a-height.false c.if-c-height-d-height.true
-    c.in-ok-inner.inner c.in-ok-inner.ensures.case c.in-ok-outer.outer c.then.result c.in-ok-outer.ensures.case
+pub returns-in_ok-outer : goal.returns-in_ok-outer
+returns-in_ok-outer c =
+    once_done (tree_side c.args.side) c.args.a c.args.t c.requires c.sides-c.result c.sides-c.ensures c.if-t_height-a_height.false c.if-c_height-d_height.true
+    c.in_ok-inner.inner c.in_ok-inner.ensures.case c.in_ok-outer.outer c.then.result c.in_ok-outer.ensures.case
     c.then.ensures
 
 pub returns-in-Left : goal.returns-in-Left
 returns-in-Left c =
-    twice_left (tree_side c.args.side) c.args.a c.args.t c.requires c.sides-c.result c.sides-c.ensures c.if-t-height-a-height.false
-    c.sides-e.result c.sides-e.ensures c.if-c-height-d-height.false (ap tree_side c.in-Left.is) c.fork-four.ensures
+    twice_left (tree_side c.args.side) c.args.a c.args.t c.requires c.sides-c.result c.sides-c.ensures c.if-t_height-a_height.false
+    c.sides-e.result c.sides-e.ensures c.if-c_height-d_height.false (ap tree_side c.in-Left.is) c.fork_four.ensures
 
 pub returns-in-Right : goal.returns-in-Right
 returns-in-Right c =
-    twice_right (tree_side c.args.side) c.args.a c.args.t c.requires c.sides-c.result c.sides-c.ensures c.if-t-height-a-height.false
-    c.sides-e.result c.sides-e.ensures c.if-c-height-d-height.false (ap tree_side c.in-Right.is) c.fork-four-in-Right.ensures
+    twice_right (tree_side c.args.side) c.args.a c.args.t c.requires c.sides-c.result c.sides-c.ensures c.if-t_height-a_height.false
+    c.sides-e.result c.sides-e.ensures c.if-c_height-d_height.false (ap tree_side c.in-Right.is) c.fork_four-in-Right.ensures

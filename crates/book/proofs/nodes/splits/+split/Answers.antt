@@ -8,27 +8,27 @@ leaf-requires t c =
     let e = piece_ends c.args.slot c.args.place c.requires c.in-Piece.text c.in-Piece.start c.in-Piece.is in
     record { ready = c.requires.ready; some = c.requires.above; ends = omega arith }
 
-pub returns-in-err-left : goal.returns-in-err-left
-returns-in-err-left t c =
-    let p = err_from_is_err_and c.from-residual.result c.from-residual.ensures.1 in
-    rw p.1 (piece_fails c.args.slot c.args.place c.requires c.in-Piece.text c.in-Piece.start c.in-Piece.is c.in-err-left.ensures.case)
+pub returns-in_err-left : goal.returns-in_err-left
+returns-in_err-left t c =
+    let p = err_from_is_err_and c.from_residual.result c.from_residual.ensures.1 in
+    rw p.1 (piece_fails c.args.slot c.args.place c.requires c.in-Piece.text c.in-Piece.start c.in-Piece.is c.in_err-left.ensures.case)
 
-pub overflow-add-start : goal.overflow-add-start
-overflow-add-start t c = let e = piece_ends c.args.slot c.args.place c.requires c.in-Piece.text c.in-Piece.start c.in-Piece.is in omega arith
+pub overflow_add-start : goal.overflow_add-start
+overflow_add-start t c = let e = piece_ends c.args.slot c.args.place c.requires c.in-Piece.text c.in-Piece.start c.in-Piece.is in omega arith
 
-pub overflow-sub-len : goal.overflow-sub-len
-overflow-sub-len t c = let e = piece_ends c.args.slot c.args.place c.requires c.in-Piece.text c.in-Piece.start c.in-Piece.is in omega arith
+pub overflow_sub-len : goal.overflow_sub-len
+overflow_sub-len t c = let e = piece_ends c.args.slot c.args.place c.requires c.in-Piece.text c.in-Piece.start c.in-Piece.is in omega arith
 
 pub leaf-requires-in-Piece : goal.leaf-requires-in-Piece
 leaf-requires-in-Piece t c =
     let e = piece_ends c.args.slot c.args.place c.requires c.in-Piece.text c.in-Piece.start c.in-Piece.is in
-    record { ready = c.in-ok-left.ensures.case.wrote.ready; some = omega arith; ends = omega arith }
+    record { ready = c.in_ok-left.ensures.case.wrote.ready; some = omega arith; ends = omega arith }
 
-pub returns-in-err-right : goal.returns-in-err-right
-returns-in-err-right t c =
-    let p = err_from_is_err_and c.from-residual-in-err-right.result c.from-residual-in-err-right.ensures.1 in
+pub returns-in_err-right : goal.returns-in_err-right
+returns-in_err-right t c =
+    let p = err_from_is_err_and c.from_residual-in_err-right.result c.from_residual-in_err-right.ensures.1 in
     rw p.1 (piece_fails₂ c.args.slot c.args.place c.requires c.in-Piece.text c.in-Piece.start c.in-Piece.is
-    c.in-ok-left.left c.in-ok-left.ensures.case c.in-err-right.ensures.case)
+    c.in_ok-left.left c.in_ok-left.ensures.case c.in_err-right.ensures.case)
 
 pub bounds-nodes-left : goal.bounds-nodes-left
 bounds-nodes-left t c =
@@ -40,19 +40,19 @@ split-requires t c =
     let h = side_less c.args.slot c.args.place c.requires c.in-Fork.left c.in-Fork.right c.in-Fork.is in
     (omega (arith, c.decreases), left_inside c.args.slot c.args.place c.requires c.in-Fork.left c.in-Fork.right c.in-Fork.is c.if-place-first.true)
 
-pub returns-in-err-part : goal.returns-in-err-part
-returns-in-err-part t c =
-    let p = err_from_is_err_and c.from-residual-in-err-part.result c.from-residual-in-err-part.ensures.1 in
-    rw p.1 (left_fails c.args.slot c.args.place c.requires c.in-Fork.left c.in-Fork.right c.in-Fork.is c.if-place-first.true c.in-err-part.ensures.case)
+pub returns-in_err-part : goal.returns-in_err-part
+returns-in_err-part t c =
+    let p = err_from_is_err_and c.from_residual-in_err-part.result c.from_residual-in_err-part.ensures.1 in
+    rw p.1 (left_fails c.args.slot c.args.place c.requires c.in-Fork.left c.in-Fork.right c.in-Fork.is c.if-place-first.true c.in_err-part.ensures.case)
 
 pub join-requires : goal.join-requires
-join-requires t c = left_pair c.args.slot c.args.place c.requires c.in-Fork.left c.in-Fork.right c.in-Fork.is c.if-place-first.true c.in-ok-part.part c.in-ok-part.ensures.case
+join-requires t c = left_pair c.args.slot c.args.place c.requires c.in-Fork.left c.in-Fork.right c.in-Fork.is c.if-place-first.true c.in_ok-part.part c.in_ok-part.ensures.case
 
-pub returns-in-err-rest : goal.returns-in-err-rest
-returns-in-err-rest t c =
-    let p = err_from_is_err_and c.from-residual-in-err-rest.result c.from-residual-in-err-rest.ensures.1 in
+pub returns-in_err-rest : goal.returns-in_err-rest
+returns-in_err-rest t c =
+    let p = err_from_is_err_and c.from_residual-in_err-rest.result c.from_residual-in_err-rest.ensures.1 in
     rw p.1 (left_fails₂ c.args.slot c.args.place c.requires c.in-Fork.left c.in-Fork.right c.in-Fork.is c.if-place-first.true
-    c.in-ok-part.part c.in-ok-part.ensures.case c.in-err-rest.ensures.case)
+    c.in_ok-part.part c.in_ok-part.ensures.case c.in_err-rest.ensures.case)
 
 pub split-requires-else-place-first-2 : goal.split-requires-else-place-first-2
 split-requires-else-place-first-2 t c =
@@ -62,35 +62,35 @@ split-requires-else-place-first-2 t c =
           (omega (arith, c.if-place-first.false, c.if-place-first-2.false)),
     )
 
-pub returns-in-err-part-2 : goal.returns-in-err-part-2
-returns-in-err-part-2 t c =
-    let p = err_from_is_err_and c.from-residual-in-err-part-2.result c.from-residual-in-err-part-2.ensures.1 in
+pub returns-in_err-part-2 : goal.returns-in_err-part-2
+returns-in_err-part-2 t c =
+    let p = err_from_is_err_and c.from_residual-in_err-part-2.result c.from_residual-in_err-part-2.ensures.1 in
     rw p.1 (right_fails c.args.slot c.args.place c.requires c.in-Fork.left c.in-Fork.right c.in-Fork.is
-    (omega (arith, c.if-place-first.false, c.if-place-first-2.false)) c.in-err-part-2.ensures.case)
+    (omega (arith, c.if-place-first.false, c.if-place-first-2.false)) c.in_err-part-2.ensures.case)
 
 pub join-requires-else-place-first-2 : goal.join-requires-else-place-first-2
 join-requires-else-place-first-2 t c = right_pair c.args.slot c.args.place c.requires c.in-Fork.left c.in-Fork.right c.in-Fork.is
-    (omega (arith, c.if-place-first.false, c.if-place-first-2.false)) c.in-ok-part-2.part c.in-ok-part-2.ensures.case
+    (omega (arith, c.if-place-first.false, c.if-place-first-2.false)) c.in_ok-part-2.part c.in_ok-part-2.ensures.case
 
-pub returns-in-err-front : goal.returns-in-err-front
-returns-in-err-front t c =
-    let p = err_from_is_err_and c.from-residual-in-err-front.result c.from-residual-in-err-front.ensures.1 in
+pub returns-in_err-front : goal.returns-in_err-front
+returns-in_err-front t c =
+    let p = err_from_is_err_and c.from_residual-in_err-front.result c.from_residual-in_err-front.ensures.1 in
     rw p.1 (right_fails₂ c.args.slot c.args.place c.requires c.in-Fork.left c.in-Fork.right c.in-Fork.is
     (omega (arith, c.if-place-first.false, c.if-place-first-2.false))
-    c.in-ok-part-2.part c.in-ok-part-2.ensures.case c.in-err-front.ensures.case)
+    c.in_ok-part-2.part c.in_ok-part-2.ensures.case c.in_err-front.ensures.case)
 
-pub returns-in-ok-right : goal.returns-in-ok-right
-returns-in-ok-right t c = piece_done c.args.slot c.args.place c.requires c.in-Piece.text c.in-Piece.start c.in-Piece.is
-    c.in-ok-left.left c.in-ok-left.ensures.case c.in-ok-right.right c.in-ok-right.ensures.case
+pub returns-in_ok-right : goal.returns-in_ok-right
+returns-in_ok-right t c = piece_done c.args.slot c.args.place c.requires c.in-Piece.text c.in-Piece.start c.in-Piece.is
+    c.in_ok-left.left c.in_ok-left.ensures.case c.in_ok-right.right c.in_ok-right.ensures.case
 
-pub returns-in-ok-rest : goal.returns-in-ok-rest
-returns-in-ok-rest t c = left_done c.args.slot c.args.place c.requires c.in-Fork.left c.in-Fork.right c.in-Fork.is c.if-place-first.true
-    c.in-ok-part.part c.in-ok-part.ensures.case c.in-ok-rest.rest c.in-ok-rest.ensures.case
+pub returns-in_ok-rest : goal.returns-in_ok-rest
+returns-in_ok-rest t c = left_done c.args.slot c.args.place c.requires c.in-Fork.left c.in-Fork.right c.in-Fork.is c.if-place-first.true
+    c.in_ok-part.part c.in_ok-part.ensures.case c.in_ok-rest.rest c.in_ok-rest.ensures.case
 
 pub returns-then-place-first-2 : goal.returns-then-place-first-2
 returns-then-place-first-2 t c = between_done c.args.slot c.args.place c.requires c.in-Fork.left c.in-Fork.right c.in-Fork.is c.if-place-first-2.true
 
-pub returns-in-ok-front : goal.returns-in-ok-front
-returns-in-ok-front t c = right_done c.args.slot c.args.place c.requires c.in-Fork.left c.in-Fork.right c.in-Fork.is
+pub returns-in_ok-front : goal.returns-in_ok-front
+returns-in_ok-front t c = right_done c.args.slot c.args.place c.requires c.in-Fork.left c.in-Fork.right c.in-Fork.is
     (omega (arith, c.if-place-first.false, c.if-place-first-2.false))
-    c.in-ok-part-2.part c.in-ok-part-2.ensures.case c.in-ok-front.front c.in-ok-front.ensures.case
+    c.in_ok-part-2.part c.in_ok-part-2.ensures.case c.in_ok-front.front c.in_ok-front.ensures.case

@@ -20,7 +20,7 @@ pub returns : goal.returns
 returns c =
     let names = listed c.args.self.now in
     let name = c.args.name.now in
-    let same = c.copy-from-slice.ensures.after in
+    let same = c.copy_from_slice.ensures.after in
     let room : length names < 63 = simp (length-map, length-take) (omega arith) in
     let yes : takes names name ≡ true = and_from _ _ (lt-ltb _ 63 room) (le-leb (length name) 8 (omega arith)) in
     record {
@@ -28,6 +28,6 @@ returns c =
       list =
           ap (map name_of) (take_more_set c.args.self.now.list _ _ (omega arith))
           ∙ map_push name_of _ _
-          ∙ ap (λ l. names ++ record { letters = l; version = c.args.version } ∷ []) (take_at c.copy-from-slice.new.self _ (length name) (ap length same) ∙ same)
+          ∙ ap (λ l. names ++ record { letters = l; version = c.args.version } ∷ []) (take_at c.copy_from_slice.new.self _ (length name) (ap length same) ∙ same)
           ∙ sym (cond-true _ _ _ yes);
     }

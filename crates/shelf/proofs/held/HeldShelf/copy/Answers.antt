@@ -5,11 +5,11 @@ use Rattle.shelf.specs.Texts.{limit}
 use Rattle.shelf.proofs.Copies.{refused, accepted_one, stretch_take}
 use Rattle.shelf.proofs.held.HeldShelf.copy.Goals as goal
 
-pub returns-in-err-check-copy-of-one : goal.returns-in-err-check-copy-of-one
-returns-in-err-check-copy-of-one c =
+pub returns-in_err-check_copy_of_one : goal.returns-in_err-check_copy_of_one
+returns-in_err-check_copy_of_one c =
     let bytes = c.args.self.now.bytes.now in
-    let p = err_from_is_err_and c.from-residual.result c.from-residual.ensures.1 in
-    let e = c.in-err-check-copy-of-one.ensures.answers (take limit bytes) (omega (arith, length-take limit bytes)) in
+    let p = err_from_is_err_and c.from_residual.result c.from_residual.ensures.1 in
+    let e = c.in_err-check_copy_of_one.ensures.answers (take limit bytes) (omega (arith, length-take limit bytes)) in
     let q = refused (held_texts bytes) c.args.k c.args.from c.args.out.now _ e in
     record { answers = rw (p.1, p.2) q.answers; fills = q.fills }
 

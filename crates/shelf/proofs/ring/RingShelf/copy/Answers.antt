@@ -6,12 +6,12 @@ use Rattle.shelf.specs.Texts.{limit, stretch}
 use Rattle.shelf.proofs.Copies.{refused, accepted_one, take_short}
 use Rattle.shelf.proofs.ring.RingShelf.copy.Goals as goal
 
-pub returns-in-err-check-copy-of-one : goal.returns-in-err-check-copy-of-one
-returns-in-err-check-copy-of-one c =
+pub returns-in_err-check_copy_of_one : goal.returns-in_err-check_copy_of_one
+returns-in_err-check_copy_of_one c =
     let bytes = c.args.self.now.bytes.now in
     let start = c.args.self.now.start in
-    let p = err_from_is_err_and c.from-residual.result c.from-residual.ensures.1 in
-    let e = c.in-err-check-copy-of-one.ensures.answers (ring_text (take limit bytes) start) (omega (arith, length_ring (take limit bytes) start, length-take limit bytes)) in
+    let p = err_from_is_err_and c.from_residual.result c.from_residual.ensures.1 in
+    let e = c.in_err-check_copy_of_one.ensures.answers (ring_text (take limit bytes) start) (omega (arith, length_ring (take limit bytes) start, length-take limit bytes)) in
     let q = refused (ring_texts bytes start) c.args.k c.args.from c.args.out.now _ e in
     record { answers = rw (p.1, p.2) q.answers; fills = q.fills }
 
