@@ -1,6 +1,6 @@
 -- What deletions leave has the same value under the rule Brackets.
 use Rattle.std.proofs.Common.{◌≡◌, ℕ, zero, suc, ◌+◌, List, [], ◌∷◌, ◌++◌, replicate, fold, sym, refl, ap, ◌∙◌, arith}
-use Rattle.std.proofs.iter.runs.Lists.{fold-append}
+use Rattle.std.proofs.lemmas.List.Sums.{fold-append}
 use Rattle.std.proofs.lemmas.Bool.{cond-false, ne_eqb}
 use Rattle.rule.specs.declared.brackets.Unmatched.{Unmatched}
 use Rattle.rule.specs.Brackets.{none, opened, next, unmatched, Cancelling}

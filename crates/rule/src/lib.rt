@@ -38,8 +38,8 @@ pub trait Rule {
 // The value of a slice, by joining the values of its bytes from left to right.
 // Within the limit that is the meaning of the slice, and beyond it still those values joined.
 pub fn value_of<R: Rule>(bytes: &[u8]) -> R::Value
-    ensures folds { result ≡ joined_bytes value joined bytes.now }
-    ensures means { length bytes.now ≤ limit → result ≡ value bytes.now }
+    ensures folds { result ≡ joined_bytes R.value R.joined bytes.now }
+    ensures means { length bytes.now ≤ limit → result ≡ R.value bytes.now }
 {
     let mut value = R::empty();
     for b in bytes {

@@ -6,8 +6,8 @@ use Rattle.shelf.specs.Frames.{Content}
 use Rattle.viewer.specs.Shown.{kind_words, shown_content}
 
 pub made_line : {E Z : Type 0} (r : Result (Vec ℕ Z) E) (line bytes shown : List ℕ) → line ≡ bytes → bytes ≡ shown →
-    IfOk r (λ v. (vec_items v ≡ line) × (vec_len v ≡ length line)) → IfOk r (λ v. vec_items v ≡ shown)
-made_line r line bytes shown e f h = IfOk-weaker r _ _ (λ v (g : (vec_items v ≡ line) × (vec_len v ≡ length line)). g.0 ∙ e ∙ f) h
+    IfOk r (λ v. vec_items v ≡ line) → IfOk r (λ v. vec_items v ≡ shown)
+made_line r line bytes shown e f h = IfOk-weaker r _ _ (λ v (g : vec_items v ≡ line). g ∙ e ∙ f) h
 
 -- the line of a checked frame, and its text on the line behind
 pub with_text : (name : List ℕ) (content : Content) (kind : Kind) (n : ℕ) (text : List ℕ) →

@@ -12,7 +12,7 @@ use std::alloc::{AllocError, Global};
 
 // The bytes of text k, or none where k is not a text.
 fn text_bytes<S: Shelf>(heap: Global, shelf: &S, k: usize) -> Result<Vec<u8>, AllocError>
-    ensures { IfOk result (λ v. v.items ≡ text (texts shelf.now) k) }
+    ensures { IfOk result (λ v. v.items ≡ text (S.texts shelf.now) k) }
 {
     let n = shelf.length(k).unwrap_or(0);
     let mut bytes = vec![in heap; 0u8; n]?;
