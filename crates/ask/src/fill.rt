@@ -15,10 +15,10 @@ pub(crate) fn fill<S: Shelf>(
     from: usize,
     out: &mut [u8],
 ) -> Result<(), CopyFault>
-    requires readable { Readable (texts shelf.now) nodes.now slot }
+    requires readable { Readable (S.texts shelf.now) nodes.now slot }
     requires inside { from + length out.old ≤ size (tree_at nodes.now slot) }
     ensures passes { result ≡ Ok tt }
-    ensures fills { out.new ≡ stretch from (length out.old) (bytes_at (texts shelf.now) nodes.now slot) }
+    ensures fills { out.new ≡ stretch from (length out.old) (bytes_at (S.texts shelf.now) nodes.now slot) }
 {
     match nodes[slot as usize].shape {
         Shape::Piece { text, start } => shelf.copy(text as usize, start as usize + from, out),

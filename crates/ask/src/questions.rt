@@ -45,8 +45,8 @@ pub fn read<S: Shelf>(
     from: usize,
     out: &mut [u8],
 ) -> Result<(), BookFault>
-    ensures steps { book_step (texts shelf.now) (view book.now)
-        (calls.read version from (length out.old) (map length (texts shelf.now)))
+    ensures steps { book_step (S.texts shelf.now) (view book.now)
+        (calls.read version from (length out.old) (map length (S.texts shelf.now)))
         ≡ (answer (λ _. bytes out.new) result, view book.now) }
     ensures refused { OnErr result (out.new ≡ out.old) }
 {
@@ -73,8 +73,8 @@ pub fn find<S: Shelf>(
     from: usize,
     pattern: &[u8],
 ) -> Result<Option<usize>, BookFault>
-    ensures { book_step (texts shelf.now) (view book.now)
-        (calls.find version from pattern.now (map length (texts shelf.now)))
+    ensures { book_step (S.texts shelf.now) (view book.now)
+        (calls.find version from pattern.now (map length (S.texts shelf.now)))
         ≡ (answer found result, view book.now) }
 {
     let root = book.root(version)?;

@@ -22,11 +22,11 @@ pub(crate) fn stream<S: Shelf>(
     from: usize,
     pattern: &[u8],
 ) -> Result<Option<usize>, CopyFault>
-    requires readable { Readable (texts shelf.now) nodes.now slot }
+    requires readable { Readable (S.texts shelf.now) nodes.now slot }
     requires some { 0 < length pattern.now }
     requires short { length pattern.now ≤ longest_pattern }
     requires inside { from ≤ size (tree_at nodes.now slot) }
-    ensures { result ≡ Ok (first_place pattern.now from (drop from (bytes_at (texts shelf.now) nodes.now slot))) }
+    ensures { result ≡ Ok (first_place pattern.now from (drop from (bytes_at (S.texts shelf.now) nodes.now slot))) }
 {
     let end = nodes[slot as usize].len as usize;
     let mut window = [0; WINDOW];

@@ -16,7 +16,7 @@ use rule::Rule;
 // The law of kept versions, for any summary rule: in every run of calls on a new book and new sheets, versions, refusals and
 // answers are the plain book's, trees are those that the rules of trees allow, and summaries are the rule's values.
 pub fn law_of_kept_versions<R: Rule>() -> u8
-    ensures { Law (record { value = R.Rule.value; joined = R.Rule.joined }) }
+    ensures { Law (record { value = R.value; joined = R.joined }) }
 {
     0
 }
@@ -24,35 +24,35 @@ pub fn law_of_kept_versions<R: Rule>() -> u8
 // A history that leads to the state before a call, with that call added, leads to the state after it. So the law speaks of every
 // program that makes the calls one by one, each of which is held to the machine's step.
 pub fn histories_go_on<R: Rule>() -> u8
-    ensures { HistoriesGoOn (record { value = R.Rule.value; joined = R.Rule.joined }) }
+    ensures { HistoriesGoOn (record { value = R.value; joined = R.joined }) }
 {
     0
 }
 
 // A version that is kept never changes, whatever calls follow.
 pub fn kept_versions_stay<R: Rule>() -> u8
-    ensures { VersionsStay (record { value = R.Rule.value; joined = R.Rule.joined }) }
+    ensures { VersionsStay (record { value = R.value; joined = R.joined }) }
 {
     0
 }
 
 // What a sheet covers stays covered, whatever calls follow.
 pub fn coverage_stays<R: Rule>() -> u8
-    ensures { CoverageStays (record { value = R.Rule.value; joined = R.Rule.joined }) }
+    ensures { CoverageStays (record { value = R.value; joined = R.joined }) }
 {
     0
 }
 
 // A refused call leaves the book and the sheets as they were.
 pub fn refused_calls_change_nothing<R: Rule>() -> u8
-    ensures { RefusalsChangeNothing (record { value = R.Rule.value; joined = R.Rule.joined }) }
+    ensures { RefusalsChangeNothing (record { value = R.value; joined = R.joined }) }
 {
     0
 }
 
 // A draft that is opened, edited and tossed leaves all as it was.
 pub fn tossed_drafts_leave_no_trace<R: Rule>() -> u8
-    ensures { TossingUndoes (record { value = R.Rule.value; joined = R.Rule.joined }) }
+    ensures { TossingUndoes (record { value = R.value; joined = R.joined }) }
 {
     0
 }

@@ -27,8 +27,8 @@ fn ask_with<S: Shelf, T: Shelf>(
     patterns: &[u8],
     question: Question,
 ) -> Result<BookAnswer, AllocError>
-    ensures { IfOk result (λ a. book_step (pick (S.Shelf.texts first.now) (T.Shelf.texts second.now) which) (view book.now)
-        (question_call patterns.now (map length (pick (S.Shelf.texts first.now) (T.Shelf.texts second.now) which)) question)
+    ensures { IfOk result (λ a. book_step (pick (S.texts first.now) (T.texts second.now) which) (view book.now)
+        (question_call patterns.now (map length (pick (S.texts first.now) (T.texts second.now) which)) question)
         ≡ (book_answer a, view book.now)) }
 {
     match which {
@@ -46,8 +46,8 @@ fn ask_sheet_with<R: Rule, S: Shelf, T: Shelf>(
     which: Which,
     call: SheetCall,
 ) -> SheetAnswer<R::Value>
-    ensures { sheet_step (pick (S.Shelf.texts first.now) (T.Shelf.texts second.now) which) (rule_of value joined) (view book.now)
-        (sheet_view sheet.old) (sheet_call (map length (pick (S.Shelf.texts first.now) (T.Shelf.texts second.now) which)) call)
+    ensures { sheet_step (pick (S.texts first.now) (T.texts second.now) which) (rule_of R.value R.joined) (view book.now)
+        (sheet_view sheet.old) (sheet_call (map length (pick (S.texts first.now) (T.texts second.now) which)) call)
         ≡ (sheet_answer result, sheet_view sheet.new) }
 {
     match which {
@@ -67,8 +67,8 @@ pub fn perform<P: Rule, Q: Rule, S: Shelf, T: Shelf>(
     patterns: &[u8],
     call: Call,
 ) -> Result<Answer<P::Value, Q::Value>, AllocError>
-    ensures { IfOk result (λ a. Performs patterns.now (pick (S.Shelf.texts first.now) (T.Shelf.texts second.now))
-        (rule_of P.Rule.value P.Rule.joined) (rule_of Q.Rule.value Q.Rule.joined)
+    ensures { IfOk result (λ a. Performs patterns.now (pick (S.texts first.now) (T.texts second.now))
+        (rule_of P.value P.joined) (rule_of Q.value Q.joined)
         (view book.old) (view book.new) (sheet_view first_sheet.old) (sheet_view first_sheet.new)
         (sheet_view second_sheet.old) (sheet_view second_sheet.new) call a) }
 {

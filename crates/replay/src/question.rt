@@ -20,8 +20,8 @@ fn read_bytes<S: Shelf>(
     from: usize,
     len: usize,
 ) -> Result<BookAnswer, AllocError>
-    ensures { IfOk result (λ a. book_step (texts shelf.now) (view book.now)
-        (calls.read version from len (map length (texts shelf.now))) ≡ (book_answer a, view book.now)) }
+    ensures { IfOk result (λ a. book_step (S.texts shelf.now) (view book.now)
+        (calls.read version from len (map length (S.texts shelf.now))) ≡ (book_answer a, view book.now)) }
 {
     match shape(book, version) {
         Err(fault) => return Ok(BookAnswer::Refused(fault)),
@@ -54,8 +54,8 @@ pub fn ask<S: Shelf>(
     patterns: &[u8],
     question: Question,
 ) -> Result<BookAnswer, AllocError>
-    ensures { IfOk result (λ a. book_step (texts shelf.now) (view book.now)
-        (question_call patterns.now (map length (texts shelf.now)) question) ≡ (book_answer a, view book.now)) }
+    ensures { IfOk result (λ a. book_step (S.texts shelf.now) (view book.now)
+        (question_call patterns.now (map length (S.texts shelf.now)) question) ≡ (book_answer a, view book.now)) }
 {
     match question {
         Question::Read { version, from, len } => read_bytes(heap, book, shelf, version, from, len),

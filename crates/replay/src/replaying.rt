@@ -23,8 +23,8 @@ pub fn replay_on<P: Rule, Q: Rule, S: Shelf, T: Shelf>(
     patterns: &[u8],
     calls: &[Call],
 ) -> Result<Vec<Answer<P::Value, Q::Value>>, AllocError>
-    ensures { IfOk result (λ answers. Runs patterns.now (pick (S.Shelf.texts first.now) (T.Shelf.texts second.now))
-        (rule_of P.Rule.value P.Rule.joined) (rule_of Q.Rule.value Q.Rule.joined)
+    ensures { IfOk result (λ answers. Runs patterns.now (pick (S.texts first.now) (T.texts second.now))
+        (rule_of P.value P.joined) (rule_of Q.value Q.joined)
         (view book.old) (view book.new) (sheet_view first_sheet.old) (sheet_view first_sheet.new)
         (sheet_view second_sheet.old) (sheet_view second_sheet.new) calls.now answers.items) }
 {
@@ -56,8 +56,8 @@ pub fn replay<P: Rule, Q: Rule, S: Shelf, T: Shelf>(
     patterns: &[u8],
     calls: &[Call],
 ) -> Result<Vec<Answer<P::Value, Q::Value>>, AllocError>
-    ensures { IfOk result (λ answers. Replayed patterns.now (pick (S.Shelf.texts first.now) (T.Shelf.texts second.now))
-        (rule_of P.Rule.value P.Rule.joined) (rule_of Q.Rule.value Q.Rule.joined)
+    ensures { IfOk result (λ answers. Replayed patterns.now (pick (S.texts first.now) (T.texts second.now))
+        (rule_of P.value P.joined) (rule_of Q.value Q.joined)
         (length nodes.old) first_values.old second_values.old calls.now answers.items) }
 {
     let mut book = open_book(nodes, first);

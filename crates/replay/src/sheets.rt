@@ -18,8 +18,8 @@ pub fn ask_sheet<R: Rule, S: Shelf>(
     shelf: &S,
     call: SheetCall,
 ) -> SheetAnswer<R::Value>
-    ensures { sheet_step (texts shelf.now) (rule_of value joined) (view book.now)
-        (sheet_view sheet.old) (sheet_call (map length (texts shelf.now)) call)
+    ensures { sheet_step (S.texts shelf.now) (rule_of R.value R.joined) (view book.now)
+        (sheet_view sheet.old) (sheet_call (map length (S.texts shelf.now)) call)
         ≡ (sheet_answer result, sheet_view sheet.new) }
 {
     match call {

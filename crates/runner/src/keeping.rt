@@ -19,7 +19,7 @@ impl<'a> Runner<'a> {
         out: &mut [u8],
     ) -> Result<usize, SheetFault>
         requires { buffer_least ≤ length out.old }
-        ensures { Answered (texts shelf.now) (runner_view self.old) (runner_view self.new)
+        ensures { Answered (S.texts shelf.now) (runner_view self.old) (runner_view self.new)
             (keep_as name.now) result out.old out.new }
     {
         let Runner {

@@ -34,8 +34,8 @@ pub(crate) fn show<S: Shelf>(
     out: &mut [u8],
 ) -> Result<usize, SheetFault>
     requires { len < length out.old }
-    ensures { BookAnswered (texts shelf.now) (view book.now) (view book.now)
-        (calls.read version from len (map length (texts shelf.now))) result out.old out.new }
+    ensures { BookAnswered (S.texts shelf.now) (view book.now) (view book.now)
+        (calls.read version from len (map length (S.texts shelf.now))) result out.old out.new }
 {
     read(book, shelf, version, from, &mut out[0..len])?;
     out[len] = b'\n';
@@ -52,8 +52,8 @@ pub(crate) fn locate<S: Shelf>(
     out: &mut [u8],
 ) -> Result<usize, SheetFault>
     requires { buffer_least ≤ length out.old }
-    ensures { BookAnswered (texts shelf.now) (view book.now) (view book.now)
-        (calls.find version from pattern.now (map length (texts shelf.now))) result out.old out.new }
+    ensures { BookAnswered (S.texts shelf.now) (view book.now) (view book.now)
+        (calls.find version from pattern.now (map length (S.texts shelf.now))) result out.old out.new }
 {
     let place = find(book, shelf, version, from, pattern)?;
     Ok(tell(out, Answer::Found { place }))
@@ -67,7 +67,7 @@ pub(crate) fn measure<S: Shelf>(
     out: &mut [u8],
 ) -> Result<usize, SheetFault>
     requires { buffer_least ≤ length out.old }
-    ensures { BookAnswered (texts shelf.now) (view book.now) (view book.now)
+    ensures { BookAnswered (S.texts shelf.now) (view book.now) (view book.now)
         (calls.shape version) result out.old out.new }
 {
     let dimensions = shape(book, version)?;
@@ -92,8 +92,8 @@ pub(crate) fn count_lines<S: Shelf>(
     out: &mut [u8],
 ) -> Result<usize, SheetFault>
     requires { buffer_least ≤ length out.old }
-    ensures { SheetAnswered (texts shelf.now) lines_rule lines_said (view book.now) (sheet_view sheet.old) (sheet_view sheet.new)
-        (calls.summary version from len (map length (texts shelf.now))) result out.old out.new }
+    ensures { SheetAnswered (S.texts shelf.now) lines_rule lines_said (view book.now) (sheet_view sheet.old) (sheet_view sheet.new)
+        (calls.summary version from len (map length (S.texts shelf.now))) result out.old out.new }
 {
     let count = sheet.summary(book, shelf, version, from, len)?;
     Ok(tell(
@@ -115,8 +115,8 @@ pub(crate) fn count_brackets<S: Shelf>(
     out: &mut [u8],
 ) -> Result<usize, SheetFault>
     requires { buffer_least ≤ length out.old }
-    ensures { SheetAnswered (texts shelf.now) pairs_rule pairs_said (view book.now) (sheet_view sheet.old) (sheet_view sheet.new)
-        (calls.summary version from len (map length (texts shelf.now))) result out.old out.new }
+    ensures { SheetAnswered (S.texts shelf.now) pairs_rule pairs_said (view book.now) (sheet_view sheet.old) (sheet_view sheet.new)
+        (calls.summary version from len (map length (S.texts shelf.now))) result out.old out.new }
 {
     let unmatched = sheet.summary(book, shelf, version, from, len)?;
     Ok(tell(

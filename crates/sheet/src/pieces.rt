@@ -15,8 +15,8 @@ fn block_value<R: Rule, S: Shelf>(
     from: usize,
     block: &mut [u8],
 ) -> Result<R::Value, CopyFault>
-    requires { WithinText (texts shelf.now) k from (length block.old) }
-    ensures { result ≡ Ok (value (stretch from (length block.old) (text (texts shelf.now) k))) }
+    requires { WithinText (S.texts shelf.now) k from (length block.old) }
+    ensures { result ≡ Ok (R.value (stretch from (length block.old) (text (S.texts shelf.now) k))) }
 {
     shelf.copy(k, from, block)?;
     Ok(value_of::<R>(block))
@@ -29,8 +29,8 @@ pub(crate) fn piece_value<R: Rule, S: Shelf>(
     from: usize,
     len: usize,
 ) -> Result<R::Value, CopyFault>
-    requires { WithinText (texts shelf.now) k from len }
-    ensures { result ≡ Ok (value (stretch from len (text (texts shelf.now) k))) }
+    requires { WithinText (S.texts shelf.now) k from len }
+    ensures { result ≡ Ok (R.value (stretch from len (text (S.texts shelf.now) k))) }
 {
     let mut block = [0u8; BLOCK];
     let mut value = R::empty();

@@ -44,10 +44,10 @@ pub(crate) fn root_value<R: Rule, S: Shelf>(
     from: usize,
     len: usize,
 ) -> Result<R::Value, CopyFault>
-    requires readable { Readable (texts shelf.now) nodes.now }
+    requires readable { Readable (S.texts shelf.now) nodes.now }
     requires root { Root (length nodes.now) root × Root (length values.old) root }
     requires inside { from + len ≤ size_any (any_at nodes.now root) }
-    ensures tells { result ≡ Ok (version_value (texts shelf.now) (rule_of value joined) values.old (any_at nodes.now root) from len) }
+    ensures tells { result ≡ Ok (version_value (S.texts shelf.now) (rule_of R.value R.joined) values.old (any_at nodes.now root) from len) }
     ensures stay { values.new ≡ values.old }
 {
     match root {

@@ -16,9 +16,9 @@ fn slot_value<R: Rule, S: Shelf>(
     shelf: &S,
     slot: usize,
 ) -> Result<R::Value, CopyFault>
-    requires readable { Readable (texts shelf.now) nodes.now }
+    requires readable { Readable (S.texts shelf.now) nodes.now }
     requires slot { (slot < length nodes.now) × (slot ≤ length values.now) }
-    ensures { result ≡ Ok (tree_value (texts shelf.now) (rule_of value joined) values.now (tree_at nodes.now slot)) }
+    ensures { result ≡ Ok (tree_value (S.texts shelf.now) (rule_of R.value R.joined) values.now (tree_at nodes.now slot)) }
 {
     let len = nodes[slot].len as usize;
     match nodes[slot].shape {
@@ -38,10 +38,10 @@ pub(crate) fn fill_values<R: Rule, S: Shelf>(
     shelf: &S,
     from: usize,
 ) -> Result<(), CopyFault>
-    requires readable { Readable (texts shelf.now) nodes.now }
+    requires readable { Readable (S.texts shelf.now) nodes.now }
     requires room { length nodes.now ≤ length values.old }
     ensures answers { result ≡ Ok tt }
-    ensures fills { values.new ≡ filled (texts shelf.now) (rule_of value joined)
+    ensures fills { values.new ≡ filled (S.texts shelf.now) (rule_of R.value R.joined)
         (trees nodes.now) values.old from (length nodes.now - from) }
 {
     for slot in from..nodes.len() {
@@ -59,10 +59,10 @@ pub(crate) fn stretch_value<R: Rule, S: Shelf>(
     from: usize,
     len: usize,
 ) -> Result<R::Value, CopyFault>
-    requires readable { Readable (texts shelf.now) nodes.now }
+    requires readable { Readable (S.texts shelf.now) nodes.now }
     requires slot { (slot < length nodes.now) × (slot < length values.now) }
     requires inside { from + len ≤ size (tree_at nodes.now slot) }
-    ensures { result ≡ Ok (stretch_value (texts shelf.now) (rule_of value joined) values.now (tree_at nodes.now slot) from len) }
+    ensures { result ≡ Ok (stretch_value (S.texts shelf.now) (rule_of R.value R.joined) values.now (tree_at nodes.now slot) from len) }
 {
     if len == nodes[slot as usize].len as usize {
         return Ok(values[slot as usize]);

@@ -25,7 +25,7 @@ fn settled_count(places: &Places, contents: &Contents) -> usize
 fn same_texts<S: Shelf>(contents: &Contents, shelf: &S) -> bool
     requires few { contents.now.count ≤ most_texts }
     requires fit { contents.now.count ≤ length contents.now.lens }
-    ensures { result ≡ same (map length (texts shelf.now)) (noted contents.now) }
+    ensures { result ≡ same (map length (S.texts shelf.now)) (noted contents.now) }
 {
     let count = shelf.count();
     if count != contents.count {
@@ -60,7 +60,7 @@ impl<'a> Book<'a> {
 
     // Whether a shelf shows the count and the lengths that the book noted.
     pub fn has_texts<S: Shelf>(&self, shelf: &S) -> bool
-        ensures { result ≡ same (map length (texts shelf.now)) (view self.now).lengths }
+        ensures { result ≡ same (map length (S.texts shelf.now)) (view self.now).lengths }
     {
         same_texts(&self.contents, shelf)
     }

@@ -13,7 +13,7 @@ use shelf::{MOST_TEXTS, Shelf};
 // The lengths of the texts on a shelf.
 fn note_lengths<S: Shelf>(shelf: &S) -> [usize; MOST_TEXTS]
     ensures fit { length result ≡ most_texts }
-    ensures are { take (length (texts shelf.now)) result ≡ map length (texts shelf.now) }
+    ensures are { take (length (S.texts shelf.now)) result ≡ map length (S.texts shelf.now) }
 {
     let mut lens = [0usize; MOST_TEXTS];
     for k in 0..shelf.count() {
@@ -40,7 +40,7 @@ fn first_contents(count: usize, lens: [usize; MOST_TEXTS]) -> Contents
 
 // A new book on a list of records and a shelf, whose lengths it notes.
 pub fn open_book<'a, S: Shelf>(nodes: &'a mut [Node], shelf: &S) -> Book<'a>
-    ensures { view result ≡ new_book (texts shelf.now) (length nodes.old) }
+    ensures { view result ≡ new_book (S.texts shelf.now) (length nodes.old) }
 {
     let lens = note_lengths(shelf);
     let contents = first_contents(shelf.count(), lens);

@@ -27,8 +27,8 @@ impl<'a, R: Rule> Sheet<'a, R> {
     // Covers the slots in use but those of an open draft, which may be tossed and filled otherwise later.
     // Answers how many slots were added.
     pub fn bring_up<S: Shelf>(&mut self, book: &Book, shelf: &S) -> Result<usize, SheetFault>
-        ensures { sheet_step (texts shelf.now) (rule_of value joined) (view book.now)
-            (sheet_view self.old) (bring_up (map length (texts shelf.now)))
+        ensures { sheet_step (S.texts shelf.now) (rule_of R.value R.joined) (view book.now)
+            (sheet_view self.old) (bring_up (map length (S.texts shelf.now)))
             ≡ (answer SheetTold.added result, sheet_view self.new) }
     {
         let Sheet { values, covered } = self;
@@ -55,8 +55,8 @@ impl<'a, R: Rule> Sheet<'a, R> {
         from: usize,
         len: usize,
     ) -> Result<R::Value, SheetFault>
-        ensures { sheet_step (texts shelf.now) (rule_of value joined) (view book.now)
-            (sheet_view self.old) (calls.summary version from len (map length (texts shelf.now)))
+        ensures { sheet_step (S.texts shelf.now) (rule_of R.value R.joined) (view book.now)
+            (sheet_view self.old) (calls.summary version from len (map length (S.texts shelf.now)))
             ≡ (answer SheetTold.value result, sheet_view self.new) }
     {
         let Sheet { values, covered } = self;

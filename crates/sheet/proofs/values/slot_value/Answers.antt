@@ -8,8 +8,8 @@ use Rattle.sheet.proofs.values.slot_value.Goals as goal
 pub piece_value-requires : goal.piece_value-requires
 piece_value-requires g c = (leaf_at c.requires.readable c.requires.slot.0 c.in-Piece.is).lies
 
-pub offset-bounds-values-left : goal.offset-bounds-values-left
-offset-bounds-values-left g c =
+pub offset_bounds-values-left : goal.offset_bounds-values-left
+offset_bounds-values-left g c =
     let n = node_at c.requires.readable c.requires.slot.0 c.in-Fork.is in
     let room = c.requires.slot.1 in omega arith
 
@@ -18,8 +18,8 @@ bounds-values-left g c =
     let n = node_at c.requires.readable c.requires.slot.0 c.in-Fork.is in
     let room = c.requires.slot.1 in omega arith
 
-pub offset-bounds-values-right : goal.offset-bounds-values-right
-offset-bounds-values-right g c =
+pub offset_bounds-values-right : goal.offset_bounds-values-right
+offset_bounds-values-right g c =
     let n = node_at c.requires.readable c.requires.slot.0 c.in-Fork.is in
     let room = c.requires.slot.1 in omega arith
 

@@ -10,11 +10,10 @@ returns-then-version-ge-MOST_VERSIONS c =
 
 pub invariant_of-self-2 : goal.invariant_of-self-2
 invariant_of-self-2 c =
-    let b = c.args.self.now in (
-      (keep_steps b.contents c.in-Some.draft (with_draft {s = store b.nodes.now b.places} b.contents c.in-Some.is b.sound)
-          c.if-version-ge-MOST_VERSIONS.false).keeps,
-      tt,
-    )
+    let b = c.args.self.now in record {
+      sound = (keep_steps b.contents c.in-Some.draft (with_draft {s = store b.nodes.now b.places} b.contents c.in-Some.is b.sound)
+          c.if-version-ge-MOST_VERSIONS.false).keeps;
+    }
 
 pub overflow_sub-result : goal.overflow_sub-result
 overflow_sub-result c =

@@ -15,8 +15,8 @@ returns-then-is_some c =
     open_blocked (tested (store b.nodes.now b.places) b.contents b.sound) c.args.version c.if-version-contents.false
     (sym c.is_some.ensures ∙ c.if-is_some.true)
 
-pub offset-bounds-contents-version : goal.offset-bounds-contents-version
-offset-bounds-contents-version c =
+pub offset_bounds-contents-version : goal.offset_bounds-contents-version
+offset_bounds-contents-version c =
     let b = c.args.self.now in
     omega (arith, (tested (store b.nodes.now b.places) b.contents b.sound).orderly.most_kept)
 
@@ -29,7 +29,7 @@ pub invariant_of-self-2 : goal.invariant_of-self-2
 invariant_of-self-2 c =
     let b = c.args.self.now in
     let e = none_is b.contents.draft (sym c.is_some.ensures ∙ c.if-is_some.false) in
-    ((open_steps b.contents (with_draft {s = store b.nodes.now b.places} b.contents e b.sound) c.args.version c.if-version-contents.false).keeps, tt)
+    record { sound = (open_steps b.contents (with_draft {s = store b.nodes.now b.places} b.contents e b.sound) c.args.version c.if-version-contents.false).keeps }
 
 pub returns : goal.returns
 returns c =

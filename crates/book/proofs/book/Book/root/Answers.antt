@@ -9,8 +9,8 @@ returns-then-version-self c =
     let b = c.args.self.now in
     record { case = (refl, not_rooted (tested (store b.nodes.now b.places) b.contents b.sound) c.args.version c.if-version-self.true) }
 
-pub offset-bounds-self-version : goal.offset-bounds-self-version
-offset-bounds-self-version c =
+pub offset_bounds-self-version : goal.offset_bounds-self-version
+offset_bounds-self-version c =
     let b = c.args.self.now in
     omega (arith, (tested (store b.nodes.now b.places) b.contents b.sound).orderly.most_kept)
 

@@ -5,7 +5,7 @@ use Rattle.book.proofs.book.Book.toss.Goals as goal
 pub invariant_of-self-2 : goal.invariant_of-self-2
 invariant_of-self-2 c =
     let b = c.args.self.now in
-    ((toss_steps b.contents c.in-Some.draft (with_draft {s = store b.nodes.now b.places} b.contents c.in-Some.is b.sound)).keeps, tt)
+    record { sound = (toss_steps b.contents c.in-Some.draft (with_draft {s = store b.nodes.now b.places} b.contents c.in-Some.is b.sound)).keeps }
 
 pub returns : goal.returns
 returns c =

@@ -16,8 +16,8 @@ size_of-size-requires c =
     let g = begins (store c.args.nodes.now c.args.places.now) c.args.contents.now c.in-Some.draft c.in-Some.is c.requires in
     record { ready = g.whole.ready; root = g.whole.orderly.drafted.0 }
 
-pub offset-bounds-contents-text : goal.offset-bounds-contents-text
-offset-bounds-contents-text c =
+pub offset_bounds-contents-text : goal.offset_bounds-contents-text
+offset_bounds-contents-text c =
     let g = begins (store c.args.nodes.now c.args.places.now) c.args.contents.now c.in-Some.draft c.in-Some.is c.requires in
     omega (arith, g.whole.orderly.few)
 

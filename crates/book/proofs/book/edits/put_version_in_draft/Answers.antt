@@ -22,8 +22,8 @@ returns-then-place-size c =
     let g = begins (store c.args.nodes.now c.args.places.now) c.args.contents.now c.in-Some.draft c.in-Some.is c.requires in
     edit_stops g (Edit.put_version c.args.place c.args.version) 9 (version_past g c.size_of-size.result c.size_of-size.ensures.is c.args.place c.args.version c.if-version-contents.false c.if-place-size.true)
 
-pub offset-bounds-contents-version : goal.offset-bounds-contents-version
-offset-bounds-contents-version c =
+pub offset_bounds-contents-version : goal.offset_bounds-contents-version
+offset_bounds-contents-version c =
     let g = begins (store c.args.nodes.now c.args.places.now) c.args.contents.now c.in-Some.draft c.in-Some.is c.requires in
     omega (arith, g.whole.orderly.most_kept)
 

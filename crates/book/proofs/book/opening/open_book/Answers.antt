@@ -16,7 +16,7 @@ first_contents-contents-requires g c =
     }
 
 pub invariant_of-result : goal.invariant_of-result
-invariant_of-result g c = (new_consistent c.args.nodes.now c.first_contents-contents.result _ c.first_contents-contents.ensures, tt)
+invariant_of-result g c = record { sound = new_consistent c.args.nodes.now c.first_contents-contents.result _ c.first_contents-contents.ensures }
 
 pub returns : goal.returns
 returns g c =

@@ -21,28 +21,28 @@ join-requires t c = (
       c.order-x.result c.order-x.ensures,
 )
 
-pub returns-in_err-t : goal.returns-in_err-t
-returns-in_err-t t c =
+pub returns-in_err-t-in-Some : goal.returns-in_err-t-in-Some
+returns-in_err-t-in-Some t c =
     let p = err_from_is_err_and c.from_residual.result c.from_residual.ensures.1 in
     rw p.1 (inner_fails c.in-Some.side c.args.left c.args.right c.requires c.in-Some.ensures c.order-high.result c.order-high.ensures c.sides-a.result c.sides-a.ensures
-    c.order-x.result c.order-x.ensures c.in_err-t.ensures.case)
+    c.order-x.result c.order-x.ensures c.in_err-t-in-Some.ensures.case)
 
 pub lean-requires : goal.lean-requires
 lean-requires t c = leaning c.in-Some.side c.args.left c.args.right c.requires c.in-Some.ensures c.order-high.result c.order-high.ensures c.sides-a.result c.sides-a.ensures
     c.order-x.result c.order-x.ensures
-    c.in_ok-t.t c.in_ok-t.ensures.case
+    c.in_ok-t-in-Some.t c.in_ok-t-in-Some.ensures.case
 
-pub returns-in_err-top : goal.returns-in_err-top
-returns-in_err-top t c =
-    let p = err_from_is_err_and c.from_residual-in_err-top.result c.from_residual-in_err-top.ensures.1 in
+pub returns-in_err-top-in-Some : goal.returns-in_err-top-in-Some
+returns-in_err-top-in-Some t c =
+    let p = err_from_is_err_and c.from_residual-in_err-top-in-Some.result c.from_residual-in_err-top-in-Some.ensures.1 in
     rw p.1 (top_fails c.in-Some.side c.args.left c.args.right c.requires c.in-Some.ensures c.order-high.result c.order-high.ensures c.sides-a.result c.sides-a.ensures
     c.order-x.result c.order-x.ensures
-    c.in_ok-t.t c.in_ok-t.ensures.case c.in_err-top.ensures.case)
+    c.in_ok-t-in-Some.t c.in_ok-t-in-Some.ensures.case c.in_err-top-in-Some.ensures.case)
 
 pub returns-in-None : goal.returns-in-None
 returns-in-None t c = level_done c.args.left c.args.right c.requires c.in-None.ensures c.fork.ensures
 
-pub returns-in_ok-top : goal.returns-in_ok-top
-returns-in_ok-top t c = join_done c.in-Some.side c.args.left c.args.right c.requires c.in-Some.ensures c.order-high.result c.order-high.ensures c.sides-a.result c.sides-a.ensures
+pub returns-in_ok-top-in-Some : goal.returns-in_ok-top-in-Some
+returns-in_ok-top-in-Some t c = join_done c.in-Some.side c.args.left c.args.right c.requires c.in-Some.ensures c.order-high.result c.order-high.ensures c.sides-a.result c.sides-a.ensures
     c.order-x.result c.order-x.ensures
-    c.in_ok-t.t c.in_ok-t.ensures.case c.in_ok-top.top c.then.result c.in_ok-top.ensures.case c.then.ensures
+    c.in_ok-t-in-Some.t c.in_ok-t-in-Some.ensures.case c.in_ok-top-in-Some.top c.then.result c.in_ok-top-in-Some.ensures.case c.then.ensures

@@ -36,14 +36,14 @@ fork-requires-in_default-2 c =
 pub fork-requires-in_default-2-2 : goal.fork-requires-in_default-2-2
 fork-requires-in_default-2-2 c =
     once_outer (tree_side c.args.side) c.args.a c.args.t c.requires c.sides-c.result c.sides-c.ensures c.if-t_height-a_height.false c.if-c_height-d_height.true
-    c.in_ok-inner.inner c.in_ok-inner.ensures.case
+    c.in_ok-inner-in_default-2.inner c.in_ok-inner-in_default-2.ensures.case
 
-pub returns-in_err-outer : goal.returns-in_err-outer
-returns-in_err-outer c =
-    let p = err_from_is_err_and c.from_residual-in_err-outer.result c.from_residual-in_err-outer.ensures.1 in
+pub returns-in_err-outer-in_default-2 : goal.returns-in_err-outer-in_default-2
+returns-in_err-outer-in_default-2 c =
+    let p = err_from_is_err_and c.from_residual-in_err-outer-in_default-2.result c.from_residual-in_err-outer-in_default-2.ensures.1 in
     rw p.1
     (once_fails (tree_side c.args.side) c.args.a c.args.t c.requires c.sides-c.result c.sides-c.ensures c.if-t_height-a_height.false c.if-c_height-d_height.true
-    c.in_ok-inner.inner c.in_ok-inner.ensures.case c.in_err-outer.ensures.case)
+    c.in_ok-inner-in_default-2.inner c.in_ok-inner-in_default-2.ensures.case c.in_err-outer-in_default-2.ensures.case)
 
 pub fork_four-requires : goal.fork_four-requires
 fork_four-requires c =
@@ -58,10 +58,10 @@ fork_four-requires-in-Right c =
 pub returns-then-t_height-a_height : goal.returns-then-t_height-a_height
 returns-then-t_height-a_height c = plain_done (tree_side c.args.side) c.args.a c.args.t c.requires c.if-t_height-a_height.true c.fork.ensures
 
-pub returns-in_ok-outer : goal.returns-in_ok-outer
-returns-in_ok-outer c =
+pub returns-in_ok-outer-in_default-2 : goal.returns-in_ok-outer-in_default-2
+returns-in_ok-outer-in_default-2 c =
     once_done (tree_side c.args.side) c.args.a c.args.t c.requires c.sides-c.result c.sides-c.ensures c.if-t_height-a_height.false c.if-c_height-d_height.true
-    c.in_ok-inner.inner c.in_ok-inner.ensures.case c.in_ok-outer.outer c.then.result c.in_ok-outer.ensures.case
+    c.in_ok-inner-in_default-2.inner c.in_ok-inner-in_default-2.ensures.case c.in_ok-outer-in_default-2.outer c.then.result c.in_ok-outer-in_default-2.ensures.case
     c.then.ensures
 
 pub returns-in-Left : goal.returns-in-Left

@@ -8,10 +8,10 @@ leaf-requires t c =
     let e = piece_ends c.args.slot c.args.place c.requires c.in-Piece.text c.in-Piece.start c.in-Piece.is in
     record { ready = c.requires.ready; some = c.requires.above; ends = omega arith }
 
-pub returns-in_err-left : goal.returns-in_err-left
-returns-in_err-left t c =
+pub returns-in_err-left-in-Piece : goal.returns-in_err-left-in-Piece
+returns-in_err-left-in-Piece t c =
     let p = err_from_is_err_and c.from_residual.result c.from_residual.ensures.1 in
-    rw p.1 (piece_fails c.args.slot c.args.place c.requires c.in-Piece.text c.in-Piece.start c.in-Piece.is c.in_err-left.ensures.case)
+    rw p.1 (piece_fails c.args.slot c.args.place c.requires c.in-Piece.text c.in-Piece.start c.in-Piece.is c.in_err-left-in-Piece.ensures.case)
 
 pub overflow_add-start : goal.overflow_add-start
 overflow_add-start t c = let e = piece_ends c.args.slot c.args.place c.requires c.in-Piece.text c.in-Piece.start c.in-Piece.is in omega arith
@@ -22,13 +22,13 @@ overflow_sub-len t c = let e = piece_ends c.args.slot c.args.place c.requires c.
 pub leaf-requires-in-Piece : goal.leaf-requires-in-Piece
 leaf-requires-in-Piece t c =
     let e = piece_ends c.args.slot c.args.place c.requires c.in-Piece.text c.in-Piece.start c.in-Piece.is in
-    record { ready = c.in_ok-left.ensures.case.wrote.ready; some = omega arith; ends = omega arith }
+    record { ready = c.in_ok-left-in-Piece.ensures.case.wrote.ready; some = omega arith; ends = omega arith }
 
-pub returns-in_err-right : goal.returns-in_err-right
-returns-in_err-right t c =
-    let p = err_from_is_err_and c.from_residual-in_err-right.result c.from_residual-in_err-right.ensures.1 in
+pub returns-in_err-right-in-Piece : goal.returns-in_err-right-in-Piece
+returns-in_err-right-in-Piece t c =
+    let p = err_from_is_err_and c.from_residual-in_err-right-in-Piece.result c.from_residual-in_err-right-in-Piece.ensures.1 in
     rw p.1 (piece_fails₂ c.args.slot c.args.place c.requires c.in-Piece.text c.in-Piece.start c.in-Piece.is
-    c.in_ok-left.left c.in_ok-left.ensures.case c.in_err-right.ensures.case)
+    c.in_ok-left-in-Piece.left c.in_ok-left-in-Piece.ensures.case c.in_err-right-in-Piece.ensures.case)
 
 pub bounds-nodes-left : goal.bounds-nodes-left
 bounds-nodes-left t c =
@@ -40,19 +40,19 @@ split-requires t c =
     let h = side_less c.args.slot c.args.place c.requires c.in-Fork.left c.in-Fork.right c.in-Fork.is in
     (omega (arith, c.decreases), left_inside c.args.slot c.args.place c.requires c.in-Fork.left c.in-Fork.right c.in-Fork.is c.if-place-first.true)
 
-pub returns-in_err-part : goal.returns-in_err-part
-returns-in_err-part t c =
-    let p = err_from_is_err_and c.from_residual-in_err-part.result c.from_residual-in_err-part.ensures.1 in
-    rw p.1 (left_fails c.args.slot c.args.place c.requires c.in-Fork.left c.in-Fork.right c.in-Fork.is c.if-place-first.true c.in_err-part.ensures.case)
+pub returns-in_err-part-in-Fork : goal.returns-in_err-part-in-Fork
+returns-in_err-part-in-Fork t c =
+    let p = err_from_is_err_and c.from_residual-in_err-part-in-Fork.result c.from_residual-in_err-part-in-Fork.ensures.1 in
+    rw p.1 (left_fails c.args.slot c.args.place c.requires c.in-Fork.left c.in-Fork.right c.in-Fork.is c.if-place-first.true c.in_err-part-in-Fork.ensures.case)
 
 pub join-requires : goal.join-requires
-join-requires t c = left_pair c.args.slot c.args.place c.requires c.in-Fork.left c.in-Fork.right c.in-Fork.is c.if-place-first.true c.in_ok-part.part c.in_ok-part.ensures.case
+join-requires t c = left_pair c.args.slot c.args.place c.requires c.in-Fork.left c.in-Fork.right c.in-Fork.is c.if-place-first.true c.in_ok-part-in-Fork.part c.in_ok-part-in-Fork.ensures.case
 
-pub returns-in_err-rest : goal.returns-in_err-rest
-returns-in_err-rest t c =
-    let p = err_from_is_err_and c.from_residual-in_err-rest.result c.from_residual-in_err-rest.ensures.1 in
+pub returns-in_err-rest-in-Fork : goal.returns-in_err-rest-in-Fork
+returns-in_err-rest-in-Fork t c =
+    let p = err_from_is_err_and c.from_residual-in_err-rest-in-Fork.result c.from_residual-in_err-rest-in-Fork.ensures.1 in
     rw p.1 (left_fails₂ c.args.slot c.args.place c.requires c.in-Fork.left c.in-Fork.right c.in-Fork.is c.if-place-first.true
-    c.in_ok-part.part c.in_ok-part.ensures.case c.in_err-rest.ensures.case)
+    c.in_ok-part-in-Fork.part c.in_ok-part-in-Fork.ensures.case c.in_err-rest-in-Fork.ensures.case)
 
 pub split-requires-else-place-first-2 : goal.split-requires-else-place-first-2
 split-requires-else-place-first-2 t c =
@@ -62,35 +62,35 @@ split-requires-else-place-first-2 t c =
           (omega (arith, c.if-place-first.false, c.if-place-first-2.false)),
     )
 
-pub returns-in_err-part-2 : goal.returns-in_err-part-2
-returns-in_err-part-2 t c =
-    let p = err_from_is_err_and c.from_residual-in_err-part-2.result c.from_residual-in_err-part-2.ensures.1 in
+pub returns-in_err-part-in-Fork-2 : goal.returns-in_err-part-in-Fork-2
+returns-in_err-part-in-Fork-2 t c =
+    let p = err_from_is_err_and c.from_residual-in_err-part-in-Fork-2.result c.from_residual-in_err-part-in-Fork-2.ensures.1 in
     rw p.1 (right_fails c.args.slot c.args.place c.requires c.in-Fork.left c.in-Fork.right c.in-Fork.is
-    (omega (arith, c.if-place-first.false, c.if-place-first-2.false)) c.in_err-part-2.ensures.case)
+    (omega (arith, c.if-place-first.false, c.if-place-first-2.false)) c.in_err-part-in-Fork-2.ensures.case)
 
 pub join-requires-else-place-first-2 : goal.join-requires-else-place-first-2
 join-requires-else-place-first-2 t c = right_pair c.args.slot c.args.place c.requires c.in-Fork.left c.in-Fork.right c.in-Fork.is
-    (omega (arith, c.if-place-first.false, c.if-place-first-2.false)) c.in_ok-part-2.part c.in_ok-part-2.ensures.case
+    (omega (arith, c.if-place-first.false, c.if-place-first-2.false)) c.in_ok-part-in-Fork-2.part c.in_ok-part-in-Fork-2.ensures.case
 
-pub returns-in_err-front : goal.returns-in_err-front
-returns-in_err-front t c =
-    let p = err_from_is_err_and c.from_residual-in_err-front.result c.from_residual-in_err-front.ensures.1 in
+pub returns-in_err-front-in-Fork : goal.returns-in_err-front-in-Fork
+returns-in_err-front-in-Fork t c =
+    let p = err_from_is_err_and c.from_residual-in_err-front-in-Fork.result c.from_residual-in_err-front-in-Fork.ensures.1 in
     rw p.1 (right_fails₂ c.args.slot c.args.place c.requires c.in-Fork.left c.in-Fork.right c.in-Fork.is
     (omega (arith, c.if-place-first.false, c.if-place-first-2.false))
-    c.in_ok-part-2.part c.in_ok-part-2.ensures.case c.in_err-front.ensures.case)
+    c.in_ok-part-in-Fork-2.part c.in_ok-part-in-Fork-2.ensures.case c.in_err-front-in-Fork.ensures.case)
 
-pub returns-in_ok-right : goal.returns-in_ok-right
-returns-in_ok-right t c = piece_done c.args.slot c.args.place c.requires c.in-Piece.text c.in-Piece.start c.in-Piece.is
-    c.in_ok-left.left c.in_ok-left.ensures.case c.in_ok-right.right c.in_ok-right.ensures.case
+pub returns-in_ok-right-in-Piece : goal.returns-in_ok-right-in-Piece
+returns-in_ok-right-in-Piece t c = piece_done c.args.slot c.args.place c.requires c.in-Piece.text c.in-Piece.start c.in-Piece.is
+    c.in_ok-left-in-Piece.left c.in_ok-left-in-Piece.ensures.case c.in_ok-right-in-Piece.right c.in_ok-right-in-Piece.ensures.case
 
-pub returns-in_ok-rest : goal.returns-in_ok-rest
-returns-in_ok-rest t c = left_done c.args.slot c.args.place c.requires c.in-Fork.left c.in-Fork.right c.in-Fork.is c.if-place-first.true
-    c.in_ok-part.part c.in_ok-part.ensures.case c.in_ok-rest.rest c.in_ok-rest.ensures.case
+pub returns-in_ok-rest-in-Fork : goal.returns-in_ok-rest-in-Fork
+returns-in_ok-rest-in-Fork t c = left_done c.args.slot c.args.place c.requires c.in-Fork.left c.in-Fork.right c.in-Fork.is c.if-place-first.true
+    c.in_ok-part-in-Fork.part c.in_ok-part-in-Fork.ensures.case c.in_ok-rest-in-Fork.rest c.in_ok-rest-in-Fork.ensures.case
 
 pub returns-then-place-first-2 : goal.returns-then-place-first-2
 returns-then-place-first-2 t c = between_done c.args.slot c.args.place c.requires c.in-Fork.left c.in-Fork.right c.in-Fork.is c.if-place-first-2.true
 
-pub returns-in_ok-front : goal.returns-in_ok-front
-returns-in_ok-front t c = right_done c.args.slot c.args.place c.requires c.in-Fork.left c.in-Fork.right c.in-Fork.is
+pub returns-in_ok-front-in-Fork : goal.returns-in_ok-front-in-Fork
+returns-in_ok-front-in-Fork t c = right_done c.args.slot c.args.place c.requires c.in-Fork.left c.in-Fork.right c.in-Fork.is
     (omega (arith, c.if-place-first.false, c.if-place-first-2.false))
-    c.in_ok-part-2.part c.in_ok-part-2.ensures.case c.in_ok-front.front c.in_ok-front.ensures.case
+    c.in_ok-part-in-Fork-2.part c.in_ok-part-in-Fork-2.ensures.case c.in_ok-front-in-Fork.front c.in_ok-front-in-Fork.ensures.case
