@@ -94,9 +94,9 @@ fn blank_lines_have_no_first_token(rt: HostRuntime) {
 #[test]
 fn stretches_are_cut_off_at_the_end(rt: HostRuntime) {
     let bytes = b"abcdef";
-    assert!(rt; Stretch { start: 1, end: 3 }.of(bytes) == b"bc");
-    assert!(rt; Stretch { start: 4, end: 9 }.of(bytes) == b"ef");
-    assert!(rt; Stretch { start: 3, end: 1 }.of(bytes) == b"");
+    assert!(rt; Stretch { start: 1, end: 3 }.of(bytes) == b"bc".as_slice());
+    assert!(rt; Stretch { start: 4, end: 9 }.of(bytes) == b"ef".as_slice());
+    assert!(rt; Stretch { start: 3, end: 1 }.of(bytes) == b"".as_slice());
     assert_eq!(rt; Stretch { start: 4, end: 9 }.len(), 5);
 }
 

@@ -55,9 +55,9 @@ returns-then-n-size g t c =
     let fills = left_fills c.requires.readable c.in-Fork.is c.args.from (length c.args.out.now) (omega arith) in
     record { passes = c.fill-then-n-size.ensures.passes; fills = c.fill-then-n-size.ensures.fills ∙ fills }
 
-pub returns-in_ok-fill : goal.returns-in_ok-fill
-returns-in_ok-fill g t c = record {
+pub returns-in_ok-fill-in-Fork : goal.returns-in_ok-fill-in-Fork
+returns-in_ok-fill-in-Fork g t c = record {
   passes = c.fill-else-n-size-2.ensures.passes;
   fills = both_fill c.requires.readable c.in-Fork.is c.args.from _ c.args.out.now
-      c.fill-else-n-size.new.out c.fill-else-n-size-2.new.out (omega arith) (omega arith) c.in_ok-fill.ensures.fills c.fill-else-n-size.auto.out c.fill-else-n-size-2.ensures.fills;
+      c.fill-else-n-size.new.out c.fill-else-n-size-2.new.out (omega arith) (omega arith) c.in_ok-fill-in-Fork.ensures.fills c.fill-else-n-size.auto.out c.fill-else-n-size-2.ensures.fills;
 }

@@ -91,10 +91,10 @@ returns-then-front-from g t c =
     c.stretch_value-then-front-from.ensures
     ∙ ap Ok (sym (to_right texts rule c.args.values.now n c.args.from c.args.len c.if-len-nodes.false c.if-from-len.false c.if-front-from.true))
 
-pub returns-in_ok-second : goal.returns-in_ok-second
-returns-in_ok-second g t c =
+pub returns-in_ok-second-in-Fork : goal.returns-in_ok-second-in-Fork
+returns-in_ok-second-in-Fork g t c =
     let texts = g.S.Shelf.texts c.args.shelf.now in
     let rule = rule_of g.R.Rule.value g.R.Rule.joined in
     let n = node_at c.requires.readable c.requires.slot.0 c.in-Fork.is in
     let both = to_both texts rule c.args.values.now n c.args.from c.args.len c.if-len-nodes.false c.if-from-len.false c.if-front-from.false in
-    ap Ok (c.join.ensures ∙ ap₂ g.R.Rule.joined (told c.in_ok-first.ensures) (told c.in_ok-second.ensures) ∙ sym both)
+    ap Ok (c.join.ensures ∙ ap₂ g.R.Rule.joined (told c.in_ok-first-in-Fork.ensures) (told c.in_ok-second-in-Fork.ensures) ∙ sym both)
