@@ -45,9 +45,9 @@ module _ (texts : List (List ℕ)) (s : State) (b' : Book) (name out out' : List
       let number : v ≡ length s.book.kept = told_version _ s.book b' _ _ _ v m e in
       let line : brought_up texts lines_rule b' s.lines ≡ lines = ap (λ (r : Answer (SheetTold ℕ) × Sheet ℕ). r.1) l in
       let pair : brought_up texts pairs_rule b' s.pairs ≡ pairs = ap (λ (r : Answer (SheetTold Unmatched) × Sheet Unmatched). r.1) q in
-      let name : with_name s.names name (length s.book.kept) ≡ names = ap (with_name s.names name) (sym number) ∙ sym ns in
+      let given : with_name s.names name (length s.book.kept) ≡ names = ap (with_name s.names name) (sym number) ∙ sym ns in
       record {
         step = ap (λ (r : Answer BookTold × Book). (outcome book_said r.0, after_keep texts s name (length s.book.kept) r.0 r.1)) e
-            ∙ rw (line, pair, name, w.front) refl;
+            ∙ rw (line, pair, given, w.front) refl;
         rest = (w.fits, w.behind);
       }

@@ -1,5 +1,5 @@
 -- The items that a line's answer prints.
-use Rattle.std.specs.Prelude.{ℕ, List, [], ◌∷◌, Some, None, Option}
+use Rattle.std.specs.Prelude.{ℕ, List, [], ◌∷◌, Some, None}
 use Rattle.script.specs.declared.answer.Answer.{Answer}
 use Rattle.script.specs.declared.answer.Answer.TheVariants.{Done, Kept, Found, Lines, Pairs, Shape, Refused}
 use Rattle.script.specs.declared.fault.Fault.{Fault}
@@ -17,11 +17,6 @@ fault_items fault =
     ∷ Number fault.column
     ∷ []
 
--- a place, or none
-abbrev pub found_items : Option ℕ → List Item
-found_items (Some place) = Number place ∷ []
-found_items None = Word word.Nowhere ∷ []
-
 -- the most bytes that are printed for an answer, but for those that are shown: five items of at most 20 bytes, and a byte behind each
 abbrev pub line_most : ℕ
 line_most = 105
@@ -29,7 +24,8 @@ line_most = 105
 abbrev pub said : Answer → List Item
 said Done = []
 said (Kept version made) = Word word.Kept ∷ Number version ∷ Word word.Made ∷ Number made ∷ []
-said (Found place) = found_items place
+said (Found (Some place)) = Number place ∷ []
+said (Found None) = Word word.Nowhere ∷ []
 said (Lines count) = Number count ∷ []
 said (Pairs closings openings) = Number closings ∷ Number openings ∷ []
 said (Shape length height pieces) = Number length ∷ Number height ∷ Number pieces ∷ []

@@ -1,5 +1,6 @@
 ghost use Rattle.std.specs.Prelude.{◌≡◌, ◌≤◌, length};
-ghost use Rattle.script.specs.Answers.{line_most, said, found_items, fault_items};
+ghost use Rattle.script.specs.declared.answer.Answer.TheVariants.{Found};
+ghost use Rattle.script.specs.Answers.{line_most, said, fault_items};
 ghost use Rattle.script.specs.Buffers.{end_of, written};
 ghost use Rattle.script.specs.Items.{printed};
 
@@ -88,9 +89,9 @@ pub fn print_answer(out: &mut [u8], at: usize, answer: Answer) -> Option<usize>
 }
 
 fn print_found(out: &mut [u8], at: usize, place: Option<usize>) -> Option<usize>
-    ensures end { result ≡ end_of at (printed (found_items place)) out.old }
-    ensures buffer { out.new ≡ written at (printed (found_items place)) out.old }
-    ensures short { length (printed (found_items place)) ≤ line_most }
+    ensures end { result ≡ end_of at (printed (said (Found place))) out.old }
+    ensures buffer { out.new ≡ written at (printed (said (Found place))) out.old }
+    ensures short { length (printed (said (Found place))) ≤ line_most }
 {
     match place {
         Some(place) => print(out, at, &[Item::Number(place)]),
