@@ -5,7 +5,6 @@ use Rattle.tree.specs.Rules as rules
 use Rattle.tree.specs.Rules.{then}
 use Rattle.book.specs.declared.node.Built.{Built}
 use Rattle.book.specs.declared.node.NoRoom.{NoRoom}
-use Rattle.model.specs.Rows.{most_slots}
 use Rattle.book.specs.Records.{Store}
 use Rattle.book.specs.Building.{Made, Lacks, Builds}
 use Rattle.book.proofs.Stores.{more, lacks_more}

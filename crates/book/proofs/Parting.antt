@@ -13,7 +13,6 @@ use Rattle.book.specs.declared.node.Built.{Built}
 use Rattle.book.specs.declared.node.NoRoom.{NoRoom}
 use Rattle.book.specs.declared.node.Parts.{Parts}
 use Rattle.book.specs.declared.node.Shape.TheVariants.{Piece, Fork}
-use Rattle.model.specs.Rows.{most_slots}
 use Rattle.book.specs.Records.{no_node, Filled, Stands, Store, in_use, tree_in}
 use Rattle.book.specs.Building.{one, Pair, Made, Lacks}
 use Rattle.book.specs.Parting.{Inside, Parted, Splits}

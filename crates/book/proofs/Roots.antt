@@ -15,7 +15,6 @@ use Rattle.book.specs.declared.node.Edited.{Edited}
 use Rattle.book.specs.declared.node.Halves.{Halves}
 use Rattle.book.specs.declared.node.NoRoom.{NoRoom}
 use Rattle.book.specs.declared.node.Parts.{Parts}
-use Rattle.model.specs.Rows.{most_slots}
 use Rattle.book.specs.Records.{no_node, Store, Ready, tree_in}
 use Rattle.book.specs.Building.{Wrote, Lacks}
 use Rattle.book.specs.Parting.{Inside, Parted}

@@ -2,7 +2,7 @@
 use Rattle.std.proofs.Common.{◌≡◌, ℕ, ◌+◌, ◌<◌, ◌≤◌, max, List, [], ◌∷◌, ◌++◌, length, get_or, take, sym, refl, ap, ◌∙◌, subst, append_assoc, add-zero, arith}
 use Rattle.std.proofs.lemmas.List.{length-append, length-take-le, get_or_push, get_or_append_left, get_or-take, take-take, take_more_set, take-set, length-set, append-nil}
 use Rattle.shelf.specs.Texts.{limit}
-use Rattle.tree.specs.Tree.{Tree, piece, node, height}
+use Rattle.tree.specs.Tree.{Tree, piece, node}
 use Rattle.tree.specs.Side.{Side, left, right, pick}
 use Rattle.tree.specs.Relations.{on}
 use Rattle.book.specs.declared.node.Built.{Built}

@@ -2,7 +2,7 @@
 use Rattle.std.proofs.Common.{◌≡◌, ℕ, ◌+◌, ◌<◌, ◌≤◌, get_or, Ok, Err, Result, sym, refl, ap, ◌∙◌, arith}
 use Rattle.tree.specs.Tree.{Tree, node, height}
 use Rattle.tree.specs.Side.{Side, left, right}
-use Rattle.tree.specs.Rules.{pair, then, write, plain, turn_once, turn_twice, lean}
+use Rattle.tree.specs.Rules.{then, write, plain, turn_once, turn_twice, lean}
 use Rattle.tree.specs.Relations.{on}
 use Rattle.tree.proofs.Sides.{height_on, size_on}
 use Rattle.tree.proofs.Steps.{lean_plain, lean_once, lean_twice}

@@ -15,13 +15,11 @@ use Rattle.model.specs.Calls.{bring_up, summary, Call, on_sheet}
 use Rattle.model.specs.Answers.{Answer, accepted, Told, by_sheet, SheetTold, fed}
 use Rattle.model.specs.Rows.{version_length, sheet_rows}
 use Rattle.model.specs.Plain.{Plain, plain_new, string, plain_step}
-use Rattle.model.specs.Book
 use Rattle.model.specs.Book.{version, settled, lengths_of}
 use Rattle.model.specs.Sheet.{Rule, Sheet, new_sheet, covers, sheet_own_rows, version_value, sheet_effect}
 use Rattle.model.specs.Runs.{State, new, sheet, step, run}
 use Rattle.model.specs.Table.{Covered, Smallest, Table}
-use Rattle.model.specs.Trees
-use Rattle.model.specs.Trees.{TreeBook, forgotten, tree, AllowsRun}
+use Rattle.model.specs.Trees.{TreeBook, forgotten, AllowsRun}
 use Rattle.model.specs.Tally.{Tally, nothing, tally, Counted}
 use Rattle.model.specs.Law.{Low, EveryCall, RefusedBySmallest, RefusedByBoth, CoversAll, StaysCovered, TellsValue, KeptVersions, Law}
 use Rattle.model.proofs.Slots.{covered_from, covered_more}

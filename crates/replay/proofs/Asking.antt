@@ -1,5 +1,5 @@
 -- What the shape of a version says of a read from it, and a stretch that is clipped to the bytes there are.
-use Rattle.std.proofs.Common.{◌≡◌, ℕ, ◌+◌, ◌-◌, ◌<◌, ◌≤◌, min, Bool, true, false, cond, ltb, leb, List, [], map, length, get_or, take, drop, Some, None, Option, sym, refl, ap, ◌∙◌, ⊎_elim, arith, length-drop}
+use Rattle.std.proofs.Common.{◌≡◌, ℕ, ◌+◌, ◌-◌, ◌<◌, ◌≤◌, min, Bool, true, false, cond, List, [], map, length, get_or, take, drop, Some, None, Option, sym, refl, ap, ◌∙◌, ⊎_elim, arith, length-drop}
 use Rattle.std.proofs.lemmas.List.{get_or-map, length-map, drop_all, take_all}
 use Rattle.std.proofs.lemmas.Bool.{cases_lt, leb-false, lt-ltb}
 use Rattle.shelf.proofs.Copies.{take_short}

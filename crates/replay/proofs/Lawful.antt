@@ -1,5 +1,5 @@
 -- From the machine's run to the law of kept versions.
-use Rattle.std.proofs.Common.{◌≡◌, ℕ, List, [], ◌∷◌, map, sym, refl, ap, ◌∙◌, subst, ap₂}
+use Rattle.std.proofs.Common.{◌≡◌, ℕ, List, [], ◌∷◌, map, sym, refl, ap, ◌∙◌, ap₂}
 use Rattle.rule.specs.Rule.{Joins}
 use Rattle.model.specs.Answers.{Answer, Told}
 use Rattle.model.specs.Book.{Book, new_book}

@@ -1,5 +1,5 @@
 -- Runs in which each call is handed texts of its own.
-use Rattle.std.specs.Prelude.{◌≡◌, ℕ, List, [], ◌∷◌, map}
+use Rattle.std.specs.Prelude.{ℕ, List, [], ◌∷◌}
 use Rattle.model.specs.Calls.{Call}
 use Rattle.model.specs.Answers.{Answer, Told}
 use Rattle.model.specs.Runs.{State, step}

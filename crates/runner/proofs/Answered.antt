@@ -1,15 +1,14 @@
 -- From what a call of the book answers to what is printed of it.
-use Rattle.std.proofs.Common.{◌≡◌, ℕ, List, drop, Ok, Err, Result, sym, refl, ap, ◌∙◌, ap₂, arith}
+use Rattle.std.proofs.Common.{◌≡◌, ℕ, List, Ok, Err, sym, refl, ap, ◌∙◌}
 use Rattle.shelf.specs.declared.rows.Row.{Row}
 use Rattle.model.specs.Answers.{Answer, refused, accepted, BookTold}
 use Rattle.model.specs.Book.{Book, book_step}
 use Rattle.model.specs.Calls.{BookCall}
 use Rattle.book.specs.declared.fault.BookFault.{BookFault}
 use Rattle.book.specs.declared.fault.BookFault.TheVariants.{NotKept, DraftOpen, NoDraft, NoText, PastEnd, EmptyPiece, TooLong, NoRoom, AllKept, BadPattern, OtherTexts}
-use Rattle.book.specs.Faults.{number, book_row, answer}
-use Rattle.sheet.specs.declared.fault.SheetFault.{SheetFault}
-use Rattle.sheet.specs.Faults.{of_book, sheet_row}
-use Rattle.runner.specs.Answering.{Prints, RestStays, quieted, wrote, book_outcome, BookAnswered}
+use Rattle.book.specs.Faults.{number, book_row}
+use Rattle.sheet.specs.Faults.{of_book}
+use Rattle.runner.specs.Answering.{Prints, BookAnswered}
 use Rattle.runner.specs.Said.{row_numbered, book_said, outcome}
 
 -- the row of a fault has the layer of its number

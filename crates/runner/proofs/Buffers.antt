@@ -1,5 +1,5 @@
 -- Bytes written at the beginning of a buffer.
-use Rattle.std.proofs.Common.{◌≡◌, ℕ, suc, ◌+◌, ◌-◌, ◌<◌, ◌≤◌, true, cond, List, [], ◌∷◌, ◌++◌, length, get_or, take, drop, set, Some, None, Option, unwrap_or, sym, ap, ◌∙◌, subst, append_assoc, arith, length-append, drop-cons, take_at, drop_at}
+use Rattle.std.proofs.Common.{◌≡◌, ℕ, suc, ◌+◌, ◌-◌, ◌<◌, ◌≤◌, true, cond, List, [], ◌∷◌, ◌++◌, length, get_or, drop, set, Some, None, Option, unwrap_or, sym, ap, ◌∙◌, append_assoc, arith, length-append, drop-cons, take_at, drop_at}
 use lib.Seq.{take-append_seam, drop-append_seam, set_at}
 use Rattle.std.proofs.lemmas.Bool.{le-leb}
 use Rattle.script.specs.Lines.{line_end}

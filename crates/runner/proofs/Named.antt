@@ -1,5 +1,5 @@
 -- What a keep under a name comes to.
-use Rattle.std.proofs.Common.{◌≡◌, ℕ, List, map, length, Some, None, Ok, Err, Option, Result, sym, refl, ap, ◌∙◌, arith}
+use Rattle.std.proofs.Common.{◌≡◌, ℕ, List, map, length, Some, None, Ok, Err, Option, sym, refl, ap, ◌∙◌, arith}
 use Rattle.shelf.specs.declared.rows.Row.{Row}
 use Rattle.rule.specs.declared.brackets.Unmatched.{Unmatched}
 use Rattle.model.specs.Answers.{Answer, refused, accepted, unless, BookTold, SheetTold}
@@ -11,7 +11,7 @@ use Rattle.book.specs.Faults.{number}
 use Rattle.sheet.specs.Faults.{of_book}
 use Rattle.script.specs.Names.{Named, with_name}
 use Rattle.runner.specs.Answering.{Prints, Answered}
-use Rattle.runner.specs.Commands.{lines_rule, pairs_rule, brought_up, named, after_keep}
+use Rattle.runner.specs.Commands.{lines_rule, pairs_rule, brought_up, after_keep}
 use Rattle.runner.specs.Requests.{keep_as}
 use Rattle.runner.specs.Said.{book_said, outcome}
 use Rattle.runner.specs.State.{State, with_book}

@@ -1,5 +1,5 @@
 -- What the calls of a shelf answer, by its texts.
-use Rattle.std.specs.Prelude.{ℕ, ◌+◌, Bool, cond, List, [], ◌∷◌, length, is_ok, Some, None, Ok, Err, Option, Result, nat_le, nat_lt}
+use Rattle.std.specs.Prelude.{ℕ, ◌+◌, Bool, cond, List, [], ◌∷◌, length, is_ok, Some, None, Option, Result, nat_le, nat_lt}
 use Rattle.shelf.specs.declared.rows.Layer.TheVariants.{Book}
 use Rattle.shelf.specs.declared.rows.Row.{Row}
 use Rattle.shelf.specs.declared.texts.CopyFault.{CopyFault}

@@ -1,5 +1,5 @@
 -- Vectors made of the bytes of a line, and lines one behind the other.
-use Rattle.std.proofs.Common.{◌≡◌, ℕ, List, ◌++◌, length, IfOk, vec_items, vec_len, codes, decimal, Result, Vec, ◌∙◌, append_assoc}
+use Rattle.std.proofs.Common.{◌≡◌, ℕ, List, ◌++◌, length, IfOk, vec_items, codes, decimal, Result, Vec, ◌∙◌, append_assoc}
 use Rattle.std.proofs.lemmas.Result.{IfOk-weaker}
 use Rattle.shelf.specs.declared.frame.Kind.{Kind}
 use Rattle.shelf.specs.Frames.{Content}

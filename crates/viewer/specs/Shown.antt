@@ -1,5 +1,5 @@
 -- What is shown of a trace file: its kind and length and its text, or the fault that refuses it.
-use Rattle.std.specs.Prelude.{ℕ, List, [], ◌∷◌, ◌++◌, length, Some, None, Ok, Err, codes, decimal, Option, Result}
+use Rattle.std.specs.Prelude.{ℕ, List, ◌++◌, length, Some, None, Ok, Err, codes, decimal, Option, Result}
 use Rattle.shelf.specs.declared.frame.FrameFault.{FrameFault}
 use Rattle.shelf.specs.declared.frame.Kind.{Kind}
 use Rattle.shelf.specs.declared.frame.Kind.TheVariants.{Straight, Ring}

@@ -2,7 +2,7 @@ use Rattle.std.proofs.lemmas.Result.{IfOk-weaker}
 use Rattle.book.specs.Whole.{view}
 use Rattle.sheet.specs.Reading.{rule_of}
 use Rattle.sheet.specs.View.{sheet_view}
-use Rattle.replay.specs.Replays.{pick, Runs, Replayed}
+use Rattle.replay.specs.Replays.{pick, Runs}
 use Rattle.replay.proofs.Lawful.{replayed}
 use Rattle.replay.proofs.replaying.replay.Goals as goal
 

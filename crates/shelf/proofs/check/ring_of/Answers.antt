@@ -1,4 +1,4 @@
-use Rattle.std.proofs.Common.{◌≡◌, ◌<◌, ◌≤◌, max, length, take, drop, sym, ◌∙◌, arith, length-drop, rules}
+use Rattle.std.proofs.Common.{◌≡◌, ◌<◌, ◌≤◌, max, length, sym, ◌∙◌, rules}
 use Rattle.std.proofs.lemmas.List.{take_rest}
 use Rattle.shelf.specs.Frames.{ring_start, ring_memory}
 use Rattle.shelf.proofs.Frames.{four_bytes, fits_from_start}

@@ -1,6 +1,5 @@
 use Rattle.std.proofs.Common.{refl}
 use Rattle.std.proofs.lemmas.Result.{err_from_is_err_and}
-use Rattle.book.specs.Whole.{view}
 use Rattle.runner.specs.View.{runner_view}
 use Rattle.runner.proofs.Named.{keep_refused, keep_accepted}
 use Rattle.runner.proofs.runner.Runner.keep.Goals as goal

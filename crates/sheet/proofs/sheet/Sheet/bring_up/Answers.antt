@@ -1,4 +1,4 @@
-use Rattle.std.proofs.Common.{max, sym}
+use Rattle.std.proofs.Common.{sym}
 use Rattle.sheet.specs.Reading.{rule_of}
 use Rattle.sheet.specs.View.{sheet_view}
 use Rattle.sheet.proofs.Settled.{readable}
