@@ -1,6 +1,6 @@
 -- The machine's step for the calls that open, keep and toss a draft.
 use Rattle.std.proofs.Common.{◌≡◌, ℕ, ◌+◌, ◌-◌, ◌<◌, ◌≤◌, Bool, true, false, cond, List, [], ◌∷◌, ◌++◌, map, length, get_or, take, set, is_some, Some, None, Option, sym, refl, ap, ◌∙◌, subst, ap₂, arith}
-use Rattle.std.specs.List.{AllByRecursion as All}
+use Rattle.std.specs.List.{AllByRecursion}
 use Rattle.std.proofs.ByRecursion.{All-weaker, All-push, All-take}
 use Rattle.std.proofs.lemmas.List.{length-set, take_more_set, map_push}
 use Rattle.std.proofs.lemmas.Bool.{lt-leb, le-leb, true≢false}
@@ -123,7 +123,7 @@ module _ {s : Store} (c : Contents) (d : OpenDraft) (w : Consistent s (drafting 
             roots_fit = omega arith;
             most_kept = omega arith;
             drafted = tt;
-            rooted = subst (All (Root s.used)) (sym more)
+            rooted = subst (AllByRecursion (Root s.used)) (sym more)
                 (All-push (Root s.used) (versions c) d.root (All-weaker (Root d.base) (Root s.used) (λ x. root_more x o.drafted.1) (versions c) o.rooted) o.drafted.0);
           };
           inside = w.inside;
@@ -151,7 +151,7 @@ module _ {s : Store} (c : Contents) (d : OpenDraft) (w : Consistent s (drafting 
             drafted = tt;
             rooted = o.rooted;
           };
-          inside = subst (All (Inside (noted c))) front (All-take (Inside (noted c)) d.base (trees (in_use s)) w.inside);
+          inside = subst (AllByRecursion (Inside (noted c))) front (All-take (Inside (noted c)) d.base (trees (in_use s)) w.inside);
         });
         steps = λ texts. ap₂ (λ (x : List Tree) (y : List (Option Tree)). (accepted BookTold.tossed, record { slots = x; kept = y; draft = None; lengths = noted c; room = room s.records }))
             front (roots_fewer w.ready d.base le (versions c) o.rooted);

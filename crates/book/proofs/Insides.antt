@@ -1,6 +1,6 @@
 -- What the changes of a tree write lies inside the texts, by their lengths.
 use Rattle.std.proofs.Common.{◌≡◌, ℕ, suc, ◌+◌, ◌<◌, List, [], ◌∷◌, ◌++◌, map, length, get_or, replicate, Some, None, Option, sym, refl, ap, ◌∙◌, subst, ap₂, add-zero, zero-add, arith}
-use Rattle.std.specs.List.{AllByRecursion as All}
+use Rattle.std.specs.List.{AllByRecursion}
 use Rattle.std.proofs.ByRecursion.{All-weaker, All-get_or}
 use Rattle.std.proofs.lemmas.List.{length-map, length_push, length-replicate, get_or-map}
 use Rattle.shelf.specs.Texts.{limit}
@@ -97,19 +97,19 @@ module _ {s : Store} {c : Contents} (w : Consistent s c) where
         stored_at slots (sound_grows (in_use s) w.ready.sound) i no_tree lt,
       )
 
-  new_inside : (b : Made) {t : List ℕ} → Spells texts limit slots b t → All (Inside (noted c)) b.new
+  new_inside : (b : Made) {t : List ℕ} → Spells texts limit slots b t → AllByRecursion (Inside (noted c)) b.new
   new_inside b x = All-weaker (rules.Sound texts limit) (Inside (noted c))
       (λ t h. subst (λ (l : List ℕ). Inside l t) (blank_lengths (noted c)) (inside_from texts t h.within)) b.new x.grown.sound
 
   module _ (r : Option ℕ) (h : Root s.used r) where
     -- an edit of the rules, by the number of slots in use
-    made_inside : (f : ℕ → Made) {t : List ℕ} → Spells texts limit slots (f (length slots)) t → All (Inside (noted c)) (f s.used).new
-    made_inside f x = subst (λ (n : ℕ). All (Inside (noted c)) (f n).new) (length_slots w.ready) (new_inside (f (length slots)) x)
+    made_inside : (f : ℕ → Made) {t : List ℕ} → Spells texts limit slots (f (length slots)) t → AllByRecursion (Inside (noted c)) (f s.used).new
+    made_inside f x = subst (λ (n : ℕ). AllByRecursion (Inside (noted c)) (f n).new) (length_slots w.ready) (new_inside (f (length slots)) x)
 
     spell : EditFacts texts limit slots (any_in s r)
     spell = edits_spell texts limit slots (any_in s r) (fit r h)
 
-    pub changed_inside : (x : Change) → Fits s c r x → All (Inside (noted c)) (changed s r x).new
+    pub changed_inside : (x : Change) → Fits s c r x → AllByRecursion (Inside (noted c)) (changed s r x).new
     changed_inside (Piece place text start len) f =
         let lt : text < length texts = rw (length-map (noted c) (λ n. replicate {A = ℕ} n 0)) f.1 in
         let e : length (get_or texts text []) ≡ get_or (noted c) text 0 =

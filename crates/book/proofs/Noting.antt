@@ -1,6 +1,6 @@
 -- The noted lengths of the texts, and the contents of a new book.
 use Rattle.std.proofs.Common.{◌≡◌, ℕ, suc, ◌+◌, ◌<◌, ◌≤◌, true, false, List, [], ◌∷◌, ◌++◌, map, length, get_or, take, set, None, Option, unwrap_or, sym, ap, ◌∙◌, ap₂, ⊎_elim, arith}
-use Rattle.std.specs.List.{AllByRecursion as All}
+use Rattle.std.specs.List.{AllByRecursion}
 use Rattle.std.proofs.lemmas.List.{take_more, take_more_set, get_or-map, length-map}
 use Rattle.std.proofs.lemmas.Bool.{lt-leb, cond-false, cases_Bool}
 use Rattle.shelf.specs.Answers.{text_length}
@@ -28,7 +28,7 @@ module _ (ts : List (List ℕ)) (k n : ℕ) (o : Option ℕ) (h : k < length ts)
       take_more_set lens k n l ∙ ap (λ x. x ++ n ∷ []) before ∙ ap (λ x. take k (map length ts) ++ x ∷ []) length_told
       ∙ sym (take_more (map length ts) k 0 (omega (arith, length-map ts (length {A = ℕ}))))
 
-pub short_texts : (most : ℕ) (ts : List (List ℕ)) → ((k : ℕ) → length (get_or ts k []) ≤ most) → All (λ n. n ≤ most) (map length ts)
+pub short_texts : (most : ℕ) (ts : List (List ℕ)) → ((k : ℕ) → length (get_or ts k []) ≤ most) → AllByRecursion (λ n. n ≤ most) (map length ts)
 short_texts most [] h = tt
 short_texts most (t ∷ ts) h = (h 0, short_texts most ts (λ k. h (suc k)))
 

@@ -1,7 +1,7 @@
 -- A change of the draft's tree, on the records and in the machine.
 use Rattle.std.proofs.Common.{◌≡◌, ℕ, ◌<◌, ◌≤◌, min, List, ◌++◌, map, length, take, Some, None, Ok, Err, Option, Result, sym, refl, ap, ◌∙◌, subst, ap₂, arith}
 use Rattle.std.specs.Option.{option_or}
-use Rattle.std.specs.List.{AllByRecursion as All}
+use Rattle.std.specs.List.{AllByRecursion}
 use Rattle.std.proofs.ByRecursion.{All-append, All-get_or, All-weaker}
 use Rattle.std.proofs.lemmas.Bool.{lt-ltb, le-ltb, cond-true, cond-false}
 use Rattle.shelf.specs.Texts.{limit}
@@ -69,7 +69,7 @@ module _ {s : Store} (c : Contents) (d : OpenDraft) (w : Consistent s (drafting 
               drafted = (has.root, omega arith);
               rooted = o.rooted;
             };
-            inside = subst (All (Inside (noted c))) (sym wrote.trees)
+            inside = subst (AllByRecursion (Inside (noted c))) (sym wrote.trees)
                 (All-append (Inside (noted c)) (records.trees (in_use s)) (changed s d.root x).new w.inside (changed_inside w d.root o.drafted.0 x f));
           });
           case = (
@@ -105,7 +105,7 @@ module _ {s : Store} (c : Contents) (d : OpenDraft) (w : Consistent s (drafting 
           keeps = passes (record {
             ready = record { within = omega arith; few = omega arith; sound = subst Sound (sym records_stay) w.ready.sound };
             orderly = subst (λ (n : ℕ). Orderly n (drafting c (Some d))) (sym same) w.orderly;
-            inside = subst (λ (xs : List Node). All (Inside (noted c)) (records.trees xs)) (sym records_stay) w.inside;
+            inside = subst (λ (xs : List Node). AllByRecursion (Inside (noted c)) (records.trees xs)) (sym records_stay) w.inside;
           });
           case = (refl, l.full, ap₂ (λ (xs : List Node) (n : ℕ). shown xs (min n most_slots) (drafting c (Some d))) records_stay l.len);
         }

@@ -1,6 +1,6 @@
 -- The records that no draft made, and the roots of the kept versions among them.
 use Rattle.std.proofs.Common.{◌≡◌, ℕ, ◌<◌, ◌≤◌, List, length, get_or, take, Some, None, Option, sym, refl, ap, ◌∙◌, subst, arith}
-use Rattle.std.specs.List.{AllByRecursion as All}
+use Rattle.std.specs.List.{AllByRecursion}
 use Rattle.std.proofs.ByRecursion.{All-take}
 use Rattle.std.proofs.lemmas.List.{length-take-le, get_or-take}
 use Rattle.model.specs.Book as model
@@ -46,7 +46,7 @@ module _ {s : Store} {c : Contents} (w : Consistent s c) where
         sound = (fewer_ready w.ready (settled s.used c.draft) le).sound;
         long = length-take-le (settled s.used c.draft) s.records settled_within ∙ sym same;
         trees_are = sym t ∙ ap (λ (k : ℕ). take k (trees (in_use s))) (sym same);
-        inside = subst (All (Inside (noted c))) t (All-take (Inside (noted c)) (settled s.used c.draft) (trees (in_use s)) w.inside);
+        inside = subst (AllByRecursion (Inside (noted c))) t (All-take (Inside (noted c)) (settled s.used c.draft) (trees (in_use s)) w.inside);
       }
 
   pub not_rooted : (v : ℕ) → c.kept ≤ v → length (view_of s c).kept ≤ v

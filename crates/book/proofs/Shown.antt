@@ -1,6 +1,6 @@
 -- What a book shows, by its records and contents.
 use Rattle.std.proofs.Common.{◌≡◌, ℕ, ◌<◌, ◌≤◌, List, [], ◌∷◌, ◌++◌, map, length, get_or, take, drop, Some, None, Option, sym, refl, ap, ◌∙◌, subst, arith}
-use Rattle.std.specs.List.{AllByRecursion as All}
+use Rattle.std.specs.List.{AllByRecursion}
 use Rattle.std.proofs.ByRecursion.{All-get_or}
 use Rattle.std.proofs.lemmas.List.{length-map, length-take-le, get_or-take, get_or-map, take_at, take-take, take-append-drop}
 use Rattle.shelf.specs.Texts.{limit}
@@ -31,7 +31,7 @@ settled_le None p = omega arith
 settled_le (Some d) p = p.1
 
 -- the trees at older roots stay
-pub roots_stay : {s s' : Store} {new : List Tree} → Ready s → Wrote s s' new → (vs : List (Option ℕ)) → All (Root s.used) vs → map (any_in s') vs ≡ map (any_in s) vs
+pub roots_stay : {s s' : Store} {new : List Tree} → Ready s → Wrote s s' new → (vs : List (Option ℕ)) → AllByRecursion (Root s.used) vs → map (any_in s') vs ≡ map (any_in s) vs
 roots_stay d w [] h = refl
 roots_stay d w (v ∷ vs) h =
     let a = any_stays d w v h.0 in
@@ -61,7 +61,7 @@ module _ {s : Store} (d : Ready s) (n : ℕ) (le : n ≤ s.used) where
   any_fewer (Some i) h =
       ap Some (ap (λ xs. tree_at xs i) front ∙ front_at (in_use (fewer s n)) (drop n (in_use s)) i (rw (length_in_use fewer_ready) h))
 
-  pub roots_fewer : (vs : List (Option ℕ)) → All (Root n) vs → map (any_in s) vs ≡ map (any_in (fewer s n)) vs
+  pub roots_fewer : (vs : List (Option ℕ)) → AllByRecursion (Root n) vs → map (any_in s) vs ≡ map (any_in (fewer s n)) vs
   roots_fewer [] h = refl
   roots_fewer (v ∷ vs) h =
       let a = any_fewer v h.0 in

@@ -1,6 +1,6 @@
 -- What a book gives to those who read it: the records that no draft made, and the roots of the kept versions.
 use Rattle.std.specs.Prelude.{◌≡◌, ℕ, ◌<◌, ◌≤◌, List, length, take, Option, Result, MatchResult}
-use Rattle.std.specs.List.{AllByRecursion as All}
+use Rattle.std.specs.List.{AllByRecursion}
 use Rattle.model.specs.Book as model
 use Rattle.model.specs.Book.{settled, version}
 use Rattle.book.specs.declared.fault.BookFault.{BookFault}
@@ -15,7 +15,7 @@ pub record Settled (b : model.Book) (xs : List Node) : Type 0 where
   pub sound : Sound xs
   pub long : length xs ≡ settled b
   pub trees_are : trees xs ≡ take (settled b) b.slots
-  pub inside : All (Inside b.lengths) (trees xs)
+  pub inside : AllByRecursion (Inside b.lengths) (trees xs)
 
 -- the root of a version, which is among those records: `xs` are the records that no draft made
 pub record Rooted (b : model.Book) (v : ℕ) (root : Option ℕ) : Type 0 where

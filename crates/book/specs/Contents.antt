@@ -1,6 +1,6 @@
 -- What a book holds beside its records, and when the two are consistent.
 use Rattle.std.specs.Prelude.{ℕ, ◌+◌, ◌<◌, ◌≤◌, List, length, take, Some, None, Option, slice_index}
-use Rattle.std.specs.List.{AllByRecursion as All}
+use Rattle.std.specs.List.{AllByRecursion}
 use Rattle.shelf.specs.Texts.{limit, most_texts}
 use Rattle.tree.specs.Tree.{Tree, piece, node}
 use Rattle.model.specs.Rows.{most_versions}
@@ -29,11 +29,11 @@ Drafted used (Some d) = Root used d.root × (d.base ≤ used)
 pub record Orderly (used : ℕ) (c : Contents) : Type 0 where
   pub lens_fit : c.count ≤ length c.lens
   pub few : c.count ≤ most_texts
-  pub short : All (λ n. n ≤ limit) (noted c)
+  pub short : AllByRecursion (λ n. n ≤ limit) (noted c)
   pub roots_fit : most_versions ≤ length c.roots
   pub most_kept : c.kept ≤ most_versions
   pub drafted : Drafted used c.draft
-  pub rooted : All (Root (settled used c.draft)) (versions c)
+  pub rooted : AllByRecursion (Root (settled used c.draft)) (versions c)
 
 -- every piece has a byte at least and lies inside its text, by the lengths of the texts
 abbrev pub Inside : List ℕ → Tree → Type 0
@@ -43,4 +43,4 @@ Inside lens (node s l r) = Inside lens l × Inside lens r
 pub record Consistent (s : Store) (c : Contents) : Type 0 where
   pub ready : Ready s
   pub orderly : Orderly s.used c
-  pub inside : All (Inside (noted c)) (trees (in_use s))
+  pub inside : AllByRecursion (Inside (noted c)) (trees (in_use s))

@@ -1,7 +1,7 @@
 -- What every call keeps: the two books go together, and each sheet has the right values of the slots that it covers.
 use Rattle.std.proofs.Common.{◌≡◌, ℕ, zero, suc, ◌+◌, ◌-◌, ◌≤◌, max, List, [], ◌∷◌, map, length, get_or, Option, sym, refl, ap, ◌∙◌, subst, ap₂, arith, length-take, get_or-take}
 use Rattle.std.specs.Option.{option_or}
-use Rattle.std.specs.List.{AllByRecursion as All}
+use Rattle.std.specs.List.{AllByRecursion}
 use Rattle.std.proofs.ByRecursion.{All-set, All-weaker}
 use Rattle.std.proofs.lemmas.Bool.{ltb-false}
 use Rattle.rule.specs.Rule.{Joins}
@@ -27,7 +27,7 @@ module _ {V : Type 0} (texts : List (List ℕ)) (rule : Rule V) where
 
   pub record Sound (s : State V) (p : Plain) : Type 0 where
     pub books : Paired texts s.book p
-    pub sheets : All (SheetSound (firm s.book)) s.sheets
+    pub sheets : AllByRecursion (SheetSound (firm s.book)) s.sheets
 
   new_sound_sheet : (slots : List Tree) (values : List V) → SheetSound slots (new_sheet values)
   new_sound_sheet slots values = record { below = omega arith; long = omega arith; right = λ i l. absurd (omega arith) }
@@ -42,7 +42,7 @@ module _ {V : Type 0} (texts : List (List ℕ)) (rule : Rule V) where
         right = λ i k. h.right i k ∙ ap (λ (x : Tree). rule.value (spell texts x)) (sym (get_or_extends ts us i leaf e (omega arith)));
       }
 
-  sheet_at : (slots : List Tree) (ts : List (Sheet V)) (k : ℕ) → All (SheetSound slots) ts → SheetSound slots (get_or ts k (new_sheet []))
+  sheet_at : (slots : List Tree) (ts : List (Sheet V)) (k : ℕ) → AllByRecursion (SheetSound slots) ts → SheetSound slots (get_or ts k (new_sheet []))
   sheet_at slots [] k a = new_sound_sheet slots []
   sheet_at slots (t ∷ ts) zero a = a.0
   sheet_at slots (t ∷ ts) (suc k) a = sheet_at slots ts k a.1
@@ -55,7 +55,7 @@ module _ {V : Type 0} (texts : List (List ℕ)) (rule : Rule V) where
       let le = settled_le texts s.book.slots s.book.draft h.books.drafted in
       length-take (settled s.book) s.book.slots ∙ omega arith
 
-  all_new : (slots : List Tree) (values : List (List V)) → All (SheetSound slots) (map new_sheet values)
+  all_new : (slots : List Tree) (values : List (List V)) → AllByRecursion (SheetSound slots) (map new_sheet values)
   all_new slots [] = tt
   all_new slots (v ∷ vs) = (new_sound_sheet slots v, all_new slots vs)
 

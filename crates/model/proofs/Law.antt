@@ -1,6 +1,6 @@
 -- The law of kept versions.
 use Rattle.std.proofs.Common.{◌≡◌, ℕ, ◌+◌, ◌-◌, ◌<◌, ◌≤◌, max, ◌↔◌, List, [], ◌∷◌, length, set, Some, None, Option, sym, refl, ap, ◌∙◌, subst, ⊎_elim, arith, length-set}
-use Rattle.std.specs.List.{AllByRecursion as All}
+use Rattle.std.specs.List.{AllByRecursion}
 use Rattle.std.proofs.lemmas.List.{get_or-set_same, get_or_past}
 use Rattle.std.proofs.ByRecursion.{All-weaker, All-map}
 use Rattle.std.proofs.lemmas.Bool.{ltb-false, not-false, cases_lt}
@@ -112,7 +112,7 @@ module _ {V : Type 0} (texts : List (List ℕ)) (rule : Rule V) (joins : Joins r
       Brought : Call → Answer (Told V) × State V → Type 0
       Brought x a =
           a.0 ≡ accepted (by_sheet (SheetTold.added n)) →
-          ((sheet a.1 k).covered ≡ (sheet s k).covered + n) × All (Covered (sheet a.1 k).covered) a.1.book.kept
+          ((sheet a.1 k).covered ≡ (sheet s k).covered + n) × AllByRecursion (Covered (sheet a.1 k).covered) a.1.book.kept
 
       covered : Passed (sheet_own_rows s.book (sheet s k) (bring_up shown)) →
           Brought (on_sheet k (bring_up shown)) (accepted (effect texts rule s (on_sheet k (bring_up shown))).0, (effect texts rule s (on_sheet k (bring_up shown))).1)
@@ -165,7 +165,7 @@ module _ {V : Type 0} (texts : List (List ℕ)) (rule : Rule V) (joins : Joins r
           draft = books.draft;
           noted = books.noted;
           few = books.few;
-          short = subst (All (λ x. length x ≤ limit)) books.strings
+          short = subst (AllByRecursion (λ x. length x ≤ limit)) books.strings
               (All-map (λ x. length x ≤ limit) (spell_any texts) end.kept
               (All-weaker (Fit texts limit (firm end)) (λ o. length (spell_any texts o) ≤ limit) (whole_short texts (firm end)) end.kept books.whole));
           alike = r.1;

@@ -2,7 +2,7 @@
 use Rattle.std.proofs.Common.{◌≡◌, ℕ, ◌+◌, ◌≤◌, ltb, List, [], ◌∷◌, ◌++◌, map, length, get_or, take, drop, Some, None, Option, unwrap_or, sym, refl, ap, ◌∙◌, subst, ap₂, arith, length-append, length-take}
 use lib.ListN.{length-map, get_or-map}
 use Rattle.std.specs.Option.{option_map}
-use Rattle.std.specs.List.{AllByRecursion as All}
+use Rattle.std.specs.List.{AllByRecursion}
 use Rattle.std.proofs.lemmas.List.{map_push}
 use Rattle.std.proofs.ByRecursion.{All-push, All-weaker}
 use Rattle.std.proofs.lemmas.Bool.{ltb-false, leb-false, eqb-false, or_parts}
@@ -38,7 +38,7 @@ module _ (texts : List (List ℕ)) where
     pub strings : map (spell_any texts) b.kept ≡ p.strings
     pub draft : draft_string b.draft ≡ p.draft
     pub slots : Grown texts limit [] b.slots
-    pub whole : All (Fit texts limit (firm b)) b.kept
+    pub whole : AllByRecursion (Fit texts limit (firm b)) b.kept
     pub drafted : Drafted b.slots b.draft
     pub in_room : length b.slots ≤ b.room
     pub few : length b.kept ≤ most_versions
@@ -64,7 +64,7 @@ module _ (texts : List (List ℕ)) where
   draft_spells None = refl
   draft_spells (Some d) = refl
 
-  sizes : (slots : List Tree) (os : List (Option Tree)) → All (Fit texts limit slots) os → map size_any os ≡ map length (map (spell_any texts) os)
+  sizes : (slots : List Tree) (os : List (Option Tree)) → AllByRecursion (Fit texts limit slots) os → map size_any os ≡ map length (map (spell_any texts) os)
   sizes slots [] a = refl
   sizes slots (o ∷ os) a = ap₂ {C = List ℕ} ◌∷◌ (sym (fit_length texts limit slots o a.0)) (sizes slots os a.1)
 
@@ -167,7 +167,7 @@ module _ (texts : List (List ℕ)) where
             strings = h.strings;
             draft = ap {B = Option (List ℕ)} Some g.spells;
             slots = grown_append texts limit [] b.slots new h.slots g.grown;
-            whole = subst (λ (x : List Tree). All (Fit texts limit x) b.kept) (sym front) h.whole;
+            whole = subst (λ (x : List Tree). AllByRecursion (Fit texts limit x) b.kept) (sym front) h.whole;
             drafted = (g.fit, omega arith);
             in_room = omega arith;
             few = h.few;
@@ -186,7 +186,7 @@ module _ (texts : List (List ℕ)) where
                 ∙ ap₂ (λ (x : List (List ℕ)) (y : List ℕ). x ++ y ∷ []) h.strings draft_at;
             draft = refl;
             slots = h.slots;
-            whole = subst (λ (x : List Tree). All (Fit texts limit x) (b.kept ++ tree_of b.draft ∷ [])) (sym (extends_refl b.slots)) now;
+            whole = subst (λ (x : List Tree). AllByRecursion (Fit texts limit x) (b.kept ++ tree_of b.draft ∷ [])) (sym (extends_refl b.slots)) now;
             drafted = tt;
             in_room = h.in_room;
             few = simp length-append (omega arith);
@@ -200,7 +200,7 @@ module _ (texts : List (List ℕ)) where
             strings = h.strings;
             draft = refl;
             slots = grown_take texts limit b.slots (settled b) h.slots;
-            whole = subst (λ (x : List Tree). All (Fit texts limit x) b.kept) (sym (extends_refl (firm b))) h.whole;
+            whole = subst (λ (x : List Tree). AllByRecursion (Fit texts limit x) b.kept) (sym (extends_refl (firm b))) h.whole;
             drafted = tt;
             in_room = simp length-take (omega arith);
             few = h.few;

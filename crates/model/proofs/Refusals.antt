@@ -1,7 +1,7 @@
 -- Both books refuse the same calls by the rows that strings decide.
 use Rattle.std.proofs.Common.{◌≡◌, ℕ, ◌≤◌, true, leb, ◌↔◌, List, Some, None, Option, sym, refl, ap, ◌∙◌, inl, inr, ⊎_elim, arith}
 use Rattle.std.specs.Option.{option_or}
-use Rattle.std.specs.List.{AllByRecursion as All}
+use Rattle.std.specs.List.{AllByRecursion}
 use Rattle.std.proofs.lemmas.Bool.{leb-true}
 use Rattle.model.specs.Calls.{put_piece, put_version, cut, crop, open_version, edit, keep, toss, read, find, shape, bring_up, summary, Call, on_book, on_sheet, elsewhere}
 use Rattle.model.specs.Answers.{refused, row_of, PlainTold, unless}
@@ -18,7 +18,7 @@ use Rattle.model.proofs.Keeping.{Sound}
 low : (r : ℕ) → leb 5 r ≡ true → leb r 11 ≡ true → PlainRow r
 low r a b = inl (leb-true 5 r a, leb-true r 11 b)
 
-plain_rows_are : (b : Lengths) (c : Call) → All (λ r. PlainRow r.0) (plain_rows b c)
+plain_rows_are : (b : Lengths) (c : Call) → AllByRecursion (λ r. PlainRow r.0) (plain_rows b c)
 plain_rows_are b (on_book (open_version v)) = (low 5 refl refl, (low 6 refl refl, tt))
 plain_rows_are b (on_book (edit (put_piece p k i m))) =
     (low 7 refl refl, (low 8 refl refl, (low 9 refl refl, (low 10 refl refl, (low 11 refl refl, tt)))))

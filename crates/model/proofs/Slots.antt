@@ -1,7 +1,7 @@
 -- The trees of the slots in use: written one after the other, each over earlier ones.
 use Rattle.std.proofs.Common.{◌≡◌, ℕ, zero, suc, ◌<◌, ◌≤◌, min, List, [], ◌∷◌, ◌++◌, length, get_or, take, drop, Some, None, Option, sym, ap, ◌∙◌, subst, arith, take-append-drop, length-take, take_all, get_or-take, take-take}
 use lib.Seq.{take-append_seam}
-use Rattle.std.specs.List.{AllByRecursion as All}
+use Rattle.std.specs.List.{AllByRecursion}
 use Rattle.tree.specs.Tree.{Tree, piece, node, slot}
 use Rattle.tree.specs.Stored.{Stored, Grows}
 use Rattle.tree.specs.Edits.{Fit}
@@ -57,7 +57,7 @@ module _ (texts : List (List ℕ)) where
   fit_extends ts us None e w = tt
   fit_extends ts us (Some t) e w = (w.0, stored_extends ts us t e w.1)
 
-  pub fit_version : (ts : List Tree) (versions : List (Option Tree)) (v : ℕ) → All (Fit texts limit ts) versions → Fit texts limit ts (get_or versions v None)
+  pub fit_version : (ts : List Tree) (versions : List (Option Tree)) (v : ℕ) → AllByRecursion (Fit texts limit ts) versions → Fit texts limit ts (get_or versions v None)
   fit_version ts [] v a = tt
   fit_version ts (o ∷ os) zero a = a.0
   fit_version ts (o ∷ os) (suc v) a = fit_version ts os v a.1

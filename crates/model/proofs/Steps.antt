@@ -1,7 +1,7 @@
 -- A step is one choice: the call's row refuses it, or it is carried out.
 use Rattle.std.proofs.Common.{◌≡◌, ℕ, ◌<◌, Bool, true, false, cond, eqb, ltb, ◌⊎◌, List, [], ◌∷◌, ◌++◌, set, Some, None, Option, sym, refl, ap, ◌∙◌, subst, inl, inr, ⊎_elim, arith, lit<}
 use Rattle.std.specs.Option.{option_or}
-use Rattle.std.specs.List.{AllByRecursion as All}
+use Rattle.std.specs.List.{AllByRecursion}
 use Rattle.std.proofs.lemmas.List.{set-get_or}
 use Rattle.std.proofs.lemmas.Bool.{eq-eqb, lt-ltb, or_left, or_right}
 use Rattle.model.specs.Calls.{open_version, edit, keep, toss, read, find, shape, bring_up, summary, Call, on_book, on_sheet, elsewhere}
@@ -33,7 +33,7 @@ first_append (x ∷ xs) ys = go x.1 (first_append xs ys)
 
 -- no test passes
 abbrev pub Passed : List (ℕ × Bool) → Type 0
-Passed rows = All (λ r. r.1 ≡ false) rows
+Passed rows = AllByRecursion (λ r. r.1 ≡ false) rows
 
 passed : (xs : List (ℕ × Bool)) → first_row xs ≡ None → Passed xs
 passed [] e = tt
@@ -51,7 +51,7 @@ both_passed xs ys e = go (first_row xs) refl (sym (first_append xs ys) ∙ e)
     go (Some r) q e = not_none r (sym e)
 
 -- a row that is found is one of the list
-pub first_of : (P : ℕ → Type 0) (xs : List (ℕ × Bool)) (r : ℕ) → All (λ x. P x.0) xs → first_row xs ≡ Some r → P r
+pub first_of : (P : ℕ → Type 0) (xs : List (ℕ × Bool)) (r : ℕ) → AllByRecursion (λ x. P x.0) xs → first_row xs ≡ Some r → P r
 first_of P [] r a e = not_none r e
 first_of P (x ∷ xs) r a e = go x.1 e (first_of P xs r a.1)
   where
@@ -63,7 +63,7 @@ first_of P (x ∷ xs) r a e = go x.1 e (first_of P xs r a.1)
 abbrev pub OwnRow : ℕ → Type 0
 OwnRow r = (r ≡ 12) ⊎ (14 < r)
 
-pub own_rows_are : {V : Type 0} (s : State V) (c : Call) → All (λ r. OwnRow r.0) (own_rows s c)
+pub own_rows_are : {V : Type 0} (s : State V) (c : Call) → AllByRecursion (λ r. OwnRow r.0) (own_rows s c)
 own_rows_are s (on_book (open_version v)) = tt
 own_rows_are s (on_book (edit e)) = (inl refl, tt)
 own_rows_are s (on_book keep) = tt

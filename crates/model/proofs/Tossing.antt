@@ -1,7 +1,7 @@
 -- A draft that is opened, edited and tossed leaves no trace.
 use Rattle.std.proofs.Common.{◌≡◌, ℕ, cond, not, List, [], ◌∷◌, ◌++◌, map, length, take, is_some, Some, None, Option, sym, refl, ap, ◌∙◌, arith, take_all}
 use Rattle.std.specs.Option.{option_map}
-use Rattle.std.specs.List.{AllByRecursion as All}
+use Rattle.std.specs.List.{AllByRecursion}
 use Rattle.tree.specs.Tree.{Tree}
 use Rattle.tree.specs.Edits.{size_any}
 use Rattle.model.specs.Calls.{BookCall, open_version, edit, keep, toss, read, find, shape, on_book}
@@ -87,7 +87,7 @@ module _ {V : Type 0} (texts : List (List ℕ)) (rule : Rule V) where
               let passes : row t (on_book toss) ≡ None = ap (λ (x : Option Draft). cond (not (is_some (option_map (λ y. size_any y.tree) x))) (Some 7) None) e in
               not_none r (sym passes ∙ q)
 
-      between_tossed : (t : State V) → Undoable t → (between : List BookCall) → All Goes_on between →
+      between_tossed : (t : State V) → Undoable t → (between : List BookCall) → AllByRecursion Goes_on between →
           (run texts rule t (map on_book between ++ on_book toss ∷ [])).1 ≡ s
       between_tossed t u [] a = tossed t u
       between_tossed t u (c ∷ between) a = between_tossed (step texts rule t (on_book c)).1 (goes_on t c u a.0) between a.1

@@ -1,7 +1,7 @@
 -- The law of kept versions: what holds of every run of calls on a book and its sheets.
 use Rattle.std.specs.Prelude.{◌≡◌, ℕ, ◌+◌, ◌<◌, ◌≤◌, min, ◌⊎◌, ◌↔◌, List, [], ◌∷◌, map, length, Some, None, Option}
 use Rattle.std.specs.Option.{option_map}
-use Rattle.std.specs.List.{AllByRecursion as All}
+use Rattle.std.specs.List.{AllByRecursion}
 use Rattle.shelf.specs.Texts.{limit, stretch}
 use Rattle.tree.specs.Tree.{Tree, height, pieces, Balanced}
 use Rattle.tree.specs.Edits.{spell_any}
@@ -47,7 +47,7 @@ module _ {V : Type 0} (texts : List (List ℕ)) (rule : Rule V) where
   abbrev pub CoversAll : State V → Plain → Call → Type 0
   CoversAll s p c =
       (k n : ℕ) (shown : List ℕ) → c ≡ on_sheet k (bring_up shown) → answer s c ≡ accepted (by_sheet (SheetTold.added n)) →
-      ((sheet (after s c) k).covered ≡ (sheet s k).covered + n) × All (Covered (sheet (after s c) k).covered) (after s c).book.kept
+      ((sheet (after s c) k).covered ≡ (sheet s k).covered + n) × AllByRecursion (Covered (sheet (after s c) k).covered) (after s c).book.kept
 
   -- a version that a sheet covers stays covered by it
   abbrev pub StaysCovered : State V → Plain → Call → Type 0
@@ -96,12 +96,12 @@ module _ {V : Type 0} (texts : List (List ℕ)) (rule : Rule V) where
       -- the lengths that the book compares a shelf with are those of the texts; versions are few, and none is too long
       pub noted : end.book.lengths ≡ map length texts
       pub few : length end.book.kept ≤ most_versions
-      pub short : All (λ s. length s ≤ limit) plain_end.strings
+      pub short : AllByRecursion (λ s. length s ≤ limit) plain_end.strings
 
     pub record Trees : Type 0 where
       -- the versions and the draft, their slots forgotten, are what the rules of trees allow for these calls and answers, and nothing else is
       pub allowed : (b : TreeBook) → AllowsRun new_trees calls answers b ↔ b ≡ forgotten end.book
-      pub low : All Low end.book.kept
+      pub low : AllByRecursion Low end.book.kept
       -- the slots in use, by which row 12 goes, are those that the answers count, and no more than there are
       pub counted : Counted (tally nothing answers) end.book
       pub in_room : length end.book.slots ≤ end.book.room

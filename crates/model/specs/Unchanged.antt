@@ -1,6 +1,6 @@
 -- What calls leave as it was, in any book with any sheets.
 use Rattle.std.specs.Prelude.{◌≡◌, ℕ, ◌≤◌, List, [], ◌∷◌, ◌++◌, map, length, take, None, ◌≢◌}
-use Rattle.std.specs.List.{AllByRecursion as All}
+use Rattle.std.specs.List.{AllByRecursion}
 use Rattle.model.specs.Calls.{BookCall, open_version, keep, toss, Call, on_book}
 use Rattle.model.specs.Answers.{refused}
 use Rattle.model.specs.Sheet.{Rule}
@@ -28,5 +28,5 @@ Goes_on c = (c ≢ keep) × (c ≢ toss)
 -- where no draft is open: a version opened, any calls on the book that end no draft, and toss, leave all as it was
 abbrev pub TossingUndoes : {V : Type 0} → Rule V → Type 0
 TossingUndoes {V} rule =
-    (texts : List (List ℕ)) (s : State V) (v : ℕ) (between : List BookCall) → s.book.draft ≡ None → All Goes_on between →
+    (texts : List (List ℕ)) (s : State V) (v : ℕ) (between : List BookCall) → s.book.draft ≡ None → AllByRecursion Goes_on between →
     (run texts rule s (on_book (open_version v) ∷ map on_book between ++ on_book toss ∷ [])).1 ≡ s

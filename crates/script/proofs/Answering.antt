@@ -1,6 +1,6 @@
 -- The fault that a judgement answers is the smallest, and the leftmost of its row.
 use Rattle.std.proofs.Common.{◌≡◌, ℕ, ◌<◌, ◌≤◌, ltb, List, [], ◌∷◌, ◌++◌, Some, None, Ok, Err, Option, Result, sym, refl, ap, subst, inl, inr, arith}
-use Rattle.std.specs.List.{AllByRecursion as All}
+use Rattle.std.specs.List.{AllByRecursion}
 use Rattle.std.proofs.ByRecursion.{All-append, All-weaker}
 use Rattle.std.proofs.lemmas.Bool.{cond_both, ltb-true, ltb-false}
 use Rattle.script.specs.declared.args.Arg.{Arg}
@@ -26,7 +26,7 @@ Least faults (Err fault) = Answers fault faults
 
 -- no fault has a smaller row than n
 abbrev From : ℕ → List Fault → Type 0
-From n faults = All (λ (other : Fault). n ≤ other.row.number) faults
+From n faults = AllByRecursion (λ (other : Fault). n ≤ other.row.number) faults
 
 from_answers : (fault : Fault) (faults : List Fault) → Answers fault faults → From fault.row.number faults
 from_answers fault faults a =

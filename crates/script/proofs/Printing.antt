@@ -1,6 +1,6 @@
 -- The digits of a number and the items of a line, one on.
 use Rattle.std.proofs.Common.{◌≡◌, ℕ, ◌+◌, ◌-◌, ◌*◌, ◌/◌, ◌%◌, ◌^◌, ◌<◌, ◌≤◌, leb, List, [], ◌∷◌, ◌++◌, length, get_or, drop, decimal, sym, ap, ◌∙◌, inl, inr, append_assoc, arith, length-append}
-use Rattle.std.specs.List.{AllByRecursion as All}
+use Rattle.std.specs.List.{AllByRecursion}
 use Rattle.shelf.specs.declared.rows.Layer.{Layer}
 use Rattle.std.proofs.lemmas.List.{at_drop_more, at_drop_all, length_push}
 use Rattle.std.proofs.lemmas.Bool.{cases_lt, le-leb, lt-leb}
@@ -63,7 +63,7 @@ item_short (Item.Layer Layer.Script) h = omega arith
 item_short (Item.Number n) h = at_most_20 n h
 
 -- items of at most 20 bytes, with a byte behind each
-pub line_short : (items : List Item) → All Narrow items → length (printed items) ≤ length items * 21
+pub line_short : (items : List Item) → AllByRecursion Narrow items → length (printed items) ≤ length items * 21
 line_short [] h = omega arith
 line_short (item ∷ items) h =
     let one = item_short item h.0 in

@@ -1,6 +1,6 @@
 -- A judged line's command holds what its form wants.
 use Rattle.std.proofs.Common.{◌≡◌, ℕ, zero, suc, ◌<◌, false, ltb, List, [], ◌∷◌, length, get_or, take, Some, None, Ok, Err, Option, Result, refl, arith}
-use Rattle.std.specs.List.{AllByRecursion as All}
+use Rattle.std.specs.List.{AllByRecursion}
 use Rattle.std.proofs.lemmas.Bool.{cond_both, ltb-false}
 use Rattle.script.specs.declared.args.Arg.{Arg}
 use Rattle.script.specs.declared.fault.Fault.{Fault}
@@ -51,7 +51,7 @@ module _ (names : List Named) (script : List ℕ) where
     abbrev text : List ℕ
     text = take line.end script
 
-    fits_arguments : (kinds : List Kind) (tokens : List Stretch) → All (λ (token : Stretch). Inside token text) tokens → Fits kinds (arguments names text line kinds tokens)
+    fits_arguments : (kinds : List Kind) (tokens : List Stretch) → AllByRecursion (λ (token : Stretch). Inside token text) tokens → Fits kinds (arguments names text line kinds tokens)
     fits_arguments [] [] i = tt
     fits_arguments [] (token ∷ tokens) i = tt
     fits_arguments (k ∷ kinds) [] i = tt
@@ -87,11 +87,11 @@ module _ (names : List Named) (script : List ℕ) where
     holding_arguments token verb (Ok args) f = holding_ready token verb args f
     holding_arguments token verb (Err fault) f = tt
 
-    holding_verb : (token : Stretch) (tokens : List Stretch) (verb : Option Verb) → All (λ (t : Stretch). Inside t (text line)) tokens → Holding names script (with_verb names (text line) line token tokens verb)
+    holding_verb : (token : Stretch) (tokens : List Stretch) (verb : Option Verb) → AllByRecursion (λ (t : Stretch). Inside t (text line)) tokens → Holding names script (with_verb names (text line) line token tokens verb)
     holding_verb token tokens None i = tt
     holding_verb token tokens (Some verb) i = holding_arguments token verb _ (fits_arguments line (form verb).kinds tokens i)
 
-    holding_tokens : (tokens : List Stretch) → All (λ (t : Stretch). Inside t (text line)) tokens → Holding names script (with_tokens names (text line) line tokens)
+    holding_tokens : (tokens : List Stretch) → AllByRecursion (λ (t : Stretch). Inside t (text line)) tokens → Holding names script (with_tokens names (text line) line tokens)
     holding_tokens [] i = tt
     holding_tokens (token ∷ tokens) i = holding_verb token tokens (verb_of verbs (bytes_of token (text line))) i.1
 

@@ -1,6 +1,6 @@
 -- Which of a line's faults answers: the one of the smallest row, and of that row the leftmost.
 use Rattle.std.specs.Prelude.{◌≡◌, ℕ, ◌<◌, ◌≤◌, ◌⊎◌, List, [], ◌∷◌, ◌++◌, length, take, Some, None, Ok, Err, Option, Result}
-use Rattle.std.specs.List.{AllByRecursion as All}
+use Rattle.std.specs.List.{AllByRecursion}
 use Rattle.script.specs.declared.args.Arg.{Arg}
 use Rattle.script.specs.declared.command.Command.{Command}
 use Rattle.script.specs.declared.fault.Fault.{Fault}
@@ -49,8 +49,8 @@ pub record Answers (fault : Fault) (faults : List Fault) : Type 0 where
   pub left : List Fault
   pub right : List Fault
   pub parts : faults ≡ left ++ fault ∷ right
-  pub larger : All (λ (other : Fault). fault.row.number < other.row.number) left
-  pub smallest : All (λ (other : Fault). fault.row.number ≤ other.row.number) right
+  pub larger : AllByRecursion (λ (other : Fault). fault.row.number < other.row.number) left
+  pub smallest : AllByRecursion (λ (other : Fault). fault.row.number ≤ other.row.number) right
 
 -- A judgement answers a fault exactly if a token has one, and then the smallest, the leftmost of its row.
 -- A show that is too long is refused only where no token has a fault.

@@ -1,6 +1,6 @@
 -- What is read for a sheet: stretches of texts, and node records whose pieces lie inside the texts.
 use Rattle.std.specs.Prelude.{ℕ, ◌+◌, ◌<◌, ◌≤◌, List, length}
-use Rattle.std.specs.List.{AllByRecursion as All}
+use Rattle.std.specs.List.{AllByRecursion}
 use Rattle.shelf.specs.Texts.{text}
 use Rattle.tree.specs.Tree.{Within}
 use Rattle.book.specs.declared.node.Node.{Node}
@@ -15,7 +15,7 @@ pub record WithinText (texts : List (List ℕ)) (k from count : ℕ) : Type 0 wh
 -- the records are sound, and their pieces lie inside the texts
 pub record Readable (texts : List (List ℕ)) (records : List Node) : Type 0 where
   pub sound : Sound records
-  pub within : All (Within texts) (trees records)
+  pub within : AllByRecursion (Within texts) (trees records)
 
 -- a rule's meaning, as the machine's rule
 abbrev pub rule_of : {V : Type 0} → (List ℕ → V) → (V → V → V) → Rule V

@@ -1,7 +1,7 @@
 -- A join of balanced trees is balanced, and takes few slots.
 use Rattle.std.proofs.Common.{◌≡◌, ℕ, ◌+◌, ◌-◌, ◌*◌, ◌≤◌, max, length, refl, arith, length-append}
 use native.Mathlib.Nat.{max_comm}
-use Rattle.std.specs.List.{AllByRecursion as All}
+use Rattle.std.specs.List.{AllByRecursion}
 use Rattle.std.proofs.ByRecursion.{All-append}
 use Rattle.tree.specs.Tree.{Tree, height, Balanced}
 use Rattle.tree.specs.Side.{Side}
@@ -62,12 +62,12 @@ leaned_even (Leaned.twice {side} {a} s u e f d o p) h ba h1 h2 t' =
     rw (drawn_twice side a e f d)
     (record { balanced = balanced_on side 0 (on side 0 a e) (on side 0 f d) (omega arith) (omega arith) ae fd; low = omega arith; high = omega arith })
 
-all_balanced : (n : ℕ) (x : Brackets) → Balanced (write n x).tree → All Balanced (write n x).new
+all_balanced : (n : ℕ) (x : Brackets) → Balanced (write n x).tree → AllByRecursion Balanced (write n x).new
 all_balanced n x b = all_written Balanced (λ s l r h. (h.2, h.3)) n x b
 
 pub record Evenly (h : ℕ) (b : Built) : Type 0 where
   pub result : Even h b.tree
-  pub all : All Balanced b.new
+  pub all : AllByRecursion Balanced b.new
 
 pub even : {side : Side} {n : ℕ} {x y : Tree} {b : Built} → Joined side n x y b → Balanced x → Balanced y → Evenly (max (height x) (height y)) b
 even (Joined.level {side} {n} {x} {y} p q) bx by =

@@ -1,6 +1,6 @@
 -- The edits of trees that are in order and stored: what they write is so too, and they spell what they should.
 use Rattle.std.proofs.Common.{◌≡◌, ℕ, ◌+◌, ◌<◌, ◌≤◌, eqb, leb, List, [], ◌∷◌, ◌++◌, length, take, drop, Some, None, Option, sym, refl, ap, ◌∙◌, append_assoc, append-nil, arith, length-append, take-append-drop}
-use Rattle.std.specs.List.{AllByRecursion as All}
+use Rattle.std.specs.List.{AllByRecursion}
 use Rattle.std.proofs.lemmas.List.{take_all, drop_all, drop-drop}
 use Rattle.std.proofs.ByRecursion.{All-append, All-take}
 use Rattle.std.proofs.lemmas.Bool.{cond_both, leb-true, leb-false, eqb-true, eqb-false}
@@ -36,7 +36,7 @@ module _ (texts : List (List ℕ)) (limit : ℕ) where
   pub grown_append : (trees a b : List Tree) → Grown texts limit trees a → Grown texts limit (trees ++ a) b → Grown texts limit trees (a ++ b)
   grown_append trees a b g h = record { grows = grows_append trees a b g.grows h.grows; sound = All-append (Sound texts limit) a b g.sound h.sound }
 
-  all_sound : (new : List Tree) → All Balanced new → All (Within texts) new → All (λ x. size x ≤ limit) new → All (Sound texts limit) new
+  all_sound : (new : List Tree) → AllByRecursion Balanced new → AllByRecursion (Within texts) new → AllByRecursion (λ x. size x ≤ limit) new → AllByRecursion (Sound texts limit) new
   all_sound [] b w s = tt
   all_sound (t ∷ new) b w s = (record { balanced = b.0; within = w.0; short = s.0 }, all_sound new b.1 w.1 s.1)
 

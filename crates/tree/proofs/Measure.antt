@@ -1,6 +1,6 @@
 -- What a join keeps of any two trees, whatever the heights.
 use Rattle.std.proofs.Common.{◌≡◌, ℕ, ◌+◌, ◌≤◌, length, sym, refl, ◌∙◌, add_assoc, arith, length-append}
-use Rattle.std.specs.List.{AllByRecursion as All}
+use Rattle.std.specs.List.{AllByRecursion}
 use Rattle.std.proofs.ByRecursion.{All-append}
 use Rattle.tree.specs.Tree.{Tree, node, slot, size}
 use Rattle.tree.specs.Side.{Side, left, right, other}
@@ -56,10 +56,10 @@ module _ (Q : Tree → Type 0) (up : (s : ℕ) (l r : Tree) → Q l → Q r → 
       let ef = down_on Q down side u e f cd.0 in
       rw (drawn_twice side a e f d) (up_on Q up side 0 (on side 0 a e) (on side 0 f d) (up_on Q up side 0 a e qa ef.0) (up_on Q up side 0 f d ef.1 cd.1))
 
-  written_has : (n : ℕ) (x : Brackets) → Q (drawn x) → Q (write n x).tree × All Q (write n x).new
+  written_has : (n : ℕ) (x : Brackets) → Q (drawn x) → Q (write n x).tree × AllByRecursion Q (write n x).new
   written_has n x q = let t = kept_written Q up down n x q in (t, all_written Q down n x t)
 
-  pub kept : {side : Side} {n : ℕ} {x y : Tree} {b : Built} → Written side n x y b → Q x → Q y → Q b.tree × All Q b.new
+  pub kept : {side : Side} {n : ℕ} {x y : Tree} {b : Built} → Written side n x y b → Q x → Q y → Q b.tree × AllByRecursion Q b.new
   kept (Written.level {side} {n} {x} {y}) qx qy = written_has n (plain side x y) (rw (drawn_plain side x y) (up_on Q up side 0 x y qx qy))
   kept (Written.lower {side} {n} {y} {t} {u} s a b w l) qx qy =
       let ab = down_on Q down side s a b qx in
@@ -71,10 +71,10 @@ module _ (Q : Tree → Type 0) (up : (s : ℕ) (l r : Tree) → Q l → Q r → 
 pub join_size : {side : Side} {n : ℕ} {x y : Tree} {b : Built} → Written side n x y b → size b.tree ≡ size x + size y
 join_size {side} {n} {x} {y} w = measured size ◌+◌ add_assoc (λ s l r. refl) w ∙ at_plus side (size x) (size y)
 
-small_written : (m n : ℕ) (x : Brackets) → size (write n x).tree ≤ m → All (λ t. size t ≤ m) (write n x).new
+small_written : (m n : ℕ) (x : Brackets) → size (write n x).tree ≤ m → AllByRecursion (λ t. size t ≤ m) (write n x).new
 small_written m n x h = all_written (λ t. size t ≤ m) (λ s l r k. (omega arith, omega arith)) n x h
 
-pub join_small : {side : Side} {n : ℕ} {x y : Tree} {b : Built} → Written side n x y b → (m : ℕ) → size x + size y ≤ m → All (λ t. size t ≤ m) b.new
+pub join_small : {side : Side} {n : ℕ} {x y : Tree} {b : Built} → Written side n x y b → (m : ℕ) → size x + size y ≤ m → AllByRecursion (λ t. size t ≤ m) b.new
 join_small (Written.level {side} {n} {x} {y}) m h = small_written m n (plain side x y) (omega (arith, join_size (Written.level {side = side} {n = n} {x = x} {y = y})))
 join_small (Written.lower {side} {n} {y} {t} {u} s a b w l) m h =
     let z = size_on side s a b in

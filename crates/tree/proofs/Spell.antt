@@ -1,6 +1,6 @@
 -- The bytes, the lengths and the bounds of joins and splits.
 use Rattle.std.proofs.Common.{◌≡◌, ℕ, ◌+◌, ◌-◌, ◌≤◌, List, ◌++◌, length, take, drop, sym, refl, ap, ◌∙◌, append_assoc, add_assoc, arith, length-append, length-drop, take-append-drop, length-take}
-use Rattle.std.specs.List.{AllByRecursion as All}
+use Rattle.std.specs.List.{AllByRecursion}
 use Rattle.std.proofs.ByRecursion.{All-append}
 use Rattle.std.proofs.lemmas.List.{take-take, drop-drop, drop-take, take_at, drop_at}
 use Rattle.shelf.specs.Texts.{text, stretch}
@@ -27,14 +27,14 @@ module _ (texts : List (List ℕ)) where
   pub join_spell : {n : ℕ} {l r : Tree} {b : Built} → Written left n l r b → spell texts b.tree ≡ spell texts l ++ spell texts r
   join_spell j = measured (spell texts) ◌++◌ append_assoc (λ s l r. refl) j
 
-  pub join_within : {n : ℕ} {l r : Tree} {b : Built} → Written left n l r b → Within texts l → Within texts r → Within texts b.tree × All (Within texts) b.new
+  pub join_within : {n : ℕ} {l r : Tree} {b : Built} → Written left n l r b → Within texts l → Within texts r → Within texts b.tree × AllByRecursion (Within texts) b.new
   join_within j = kept (Within texts) (λ s l r a b. (a, b)) (λ s l r h. h) j
 
   pub split_spell : {n p : ℕ} {t : Tree} {q : Parts} → Split n t p q → spell texts q.left ++ spell texts q.right ≡ spell texts t
   split_spell s = split_measured (spell texts) ◌++◌ append_assoc (λ s l r. refl)
       (λ n s k i m p h. stretch_in_two i m p (text texts k) (omega arith)) s
 
-  pub split_within : {n p : ℕ} {t : Tree} {q : Parts} → Split n t p q → Within texts t → Within texts q.left × Within texts q.right × All (Within texts) q.new
+  pub split_within : {n p : ℕ} {t : Tree} {q : Parts} → Split n t p q → Within texts t → Within texts q.left × Within texts q.right × AllByRecursion (Within texts) q.new
   split_within s = split_kept (Within texts) (λ s l r a b. (a, b)) (λ s l r h. h)
       (λ n s k i m p h1 h2 w. ((h1, w.1, omega arith), (omega arith, w.1, omega arith))) s
 
@@ -42,7 +42,7 @@ pub split_sizes : {n p : ℕ} {t : Tree} {q : Parts} → Split n t p q → size 
 split_sizes s = split_measured size ◌+◌ add_assoc (λ s l r. refl) (λ n s k i m p h. omega arith) s
 
 -- no tree that is written is longer than what is split
-pub split_small : {n p : ℕ} {t : Tree} {q : Parts} → Split n t p q → (m : ℕ) → size t ≤ m → All (λ x. size x ≤ m) q.new
+pub split_small : {n p : ℕ} {t : Tree} {q : Parts} → Split n t p q → (m : ℕ) → size t ≤ m → AllByRecursion (λ x. size x ≤ m) q.new
 split_small (Split.halve x y) m h = omega arith
 split_small (Split.smaller {q = q} {b = b} x s j) m h =
     All-append (λ x. size x ≤ m) q.new b.new (split_small s m (omega arith)) (join_small (written j) m (omega (arith, split_sizes s)))

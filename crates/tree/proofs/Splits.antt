@@ -1,6 +1,6 @@
 -- What a split keeps.
 use Rattle.std.proofs.Common.{◌≡◌, ℕ, ◌+◌, ◌-◌, ◌*◌, ◌<◌, ◌≤◌, eqb, ltb, List, [], ◌∷◌, ◌++◌, length, sym, refl, ◌∙◌, append_assoc, append-nil, add_assoc, arith, length-append}
-use Rattle.std.specs.List.{AllByRecursion as All}
+use Rattle.std.specs.List.{AllByRecursion}
 use Rattle.std.proofs.ByRecursion.{All-append}
 use Rattle.std.proofs.lemmas.Bool.{cond_both, ltb-true, ltb-false, eqb-true, eqb-false}
 use Rattle.tree.specs.Tree.{Tree, piece, node, height, size, Balanced}
@@ -17,7 +17,7 @@ use Rattle.tree.proofs.Store.{stored_more, stored_last, placed_then, placed}
 pub record SplitEven (t : Tree) (q : Parts) : Type 0 where
   pub left : Balanced q.left
   pub right : Balanced q.right
-  pub all : All Balanced q.new
+  pub all : AllByRecursion Balanced q.new
   pub left_high : height q.left ≤ height t
   pub right_high : height q.right ≤ height t
   pub cost : length q.new ≤ 3 * height q.left + 3 * height q.right + height t + 2
@@ -76,7 +76,7 @@ module _ {X : Type 0} (μ : Tree → X) (op : X → X → X) (assoc : (x y z : X
 
 module _ (Q : Tree → Type 0) (up : (s : ℕ) (l r : Tree) → Q l → Q r → Q (node s l r)) (down : (s : ℕ) (l r : Tree) → Q (node s l r) → Q l × Q r)
     (halves : (n s k i m p : ℕ) → 0 < p → p < m → Q (piece s k i m) → Q (piece n k i p) × Q (piece (n + 1) k (i + p) (m - p))) where
-  pub split_kept : {n p : ℕ} {t : Tree} {q : Parts} → Split n t p q → Q t → Q q.left × Q q.right × All Q q.new
+  pub split_kept : {n p : ℕ} {t : Tree} {q : Parts} → Split n t p q → Q t → Q q.left × Q q.right × AllByRecursion Q q.new
   split_kept (Split.halve {n} {s} {k} {i} {m} {p} x y) h = let z = halves n s k i m p x y h in (z.0, z.1, (z.0, (z.1, tt)))
   split_kept (Split.smaller {s = u} {l = l} {r = r} {q = q} {b = b} x s j) h =
       let z = down u l r h in

@@ -1,7 +1,7 @@
 -- What is built is stored.
 use Rattle.std.proofs.Common.{◌≡◌, ℕ, zero, suc, ◌+◌, ◌<◌, List, [], ◌∷◌, ◌++◌, length, get_or, sym, ◌∙◌, subst, append_assoc, append-nil, arith, length-append}
 use lib.ListN.{get_or-append}
-use Rattle.std.specs.List.{AllByRecursion as All}
+use Rattle.std.specs.List.{AllByRecursion}
 use Rattle.std.proofs.lemmas.List.{get_or_push}
 use Rattle.tree.specs.Tree.{Tree, piece, node, slot}
 use Rattle.tree.specs.Side.{Side}
@@ -31,12 +31,12 @@ pub grows_append : (trees a b : List Tree) → Grows trees a → Grows (trees ++
 grows_append trees [] b g h = rw append-nil at h
 grows_append trees (t ∷ a) b g h = (g.0, grows_append (trees ++ t ∷ []) a b g.1 (rw append_assoc h))
 
-pub all_stored : (trees new : List Tree) → Grows trees new → All (Stored (trees ++ new)) new
+pub all_stored : (trees new : List Tree) → Grows trees new → AllByRecursion (Stored (trees ++ new)) new
 all_stored trees [] g = tt
 all_stored trees (t ∷ new) g =
     let e : trees ++ t ∷ [] ++ new ≡ trees ++ (t ∷ new) = append_assoc trees (t ∷ []) new in (
       subst (λ (x : List Tree). Stored x t) e (stored_more (trees ++ t ∷ []) new t (stored_last trees t g.0)),
-      subst (λ (x : List Tree). All (Stored x) new) e (all_stored (trees ++ t ∷ []) new g.1),
+      subst (λ (x : List Tree). AllByRecursion (Stored x) new) e (all_stored (trees ++ t ∷ []) new g.1),
     )
 
 fresh_slot : (trees : List Tree) (t : Tree) → Fresh trees t → slot t ≡ length trees

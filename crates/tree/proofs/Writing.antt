@@ -1,6 +1,6 @@
 -- What is written around old trees.
 use Rattle.std.proofs.Common.{◌≡◌, ℕ, ◌+◌, length, refl, arith, length-append}
-use Rattle.std.specs.List.{AllByRecursion as All}
+use Rattle.std.specs.List.{AllByRecursion}
 use Rattle.std.proofs.ByRecursion.{All-append}
 use Rattle.tree.specs.Tree.{Tree, node, slot}
 use Rattle.tree.specs.Side.{Side, left, right}
@@ -52,7 +52,7 @@ kept_written Q up down n (pair x y) q =
     let z = down 0 (drawn x) (drawn y) q in up _ _ _ (kept_written Q up down n x z.0) (kept_written Q up down (after n x) y z.1)
 
 -- what passes from a tree to its sides passes from the result to all that is written
-pub all_written : (Q : Tree → Type 0) → ((s : ℕ) (l r : Tree) → Q (node s l r) → Q l × Q r) → (n : ℕ) (x : Brackets) → Q (write n x).tree → All Q (write n x).new
+pub all_written : (Q : Tree → Type 0) → ((s : ℕ) (l r : Tree) → Q (node s l r) → Q l × Q r) → (n : ℕ) (x : Brackets) → Q (write n x).tree → AllByRecursion Q (write n x).new
 all_written Q down n (old t) q = tt
 all_written Q down n (pair x y) q =
     let z = down _ (write n x).tree (write (after n x) y).tree q in

@@ -1,7 +1,7 @@
 -- Joins and splits where a tree may be missing, as it is for the empty string, and the edits made of them.
 -- `n` is the next free slot.
 use Rattle.std.specs.Prelude.{◌≡◌, ℕ, ◌+◌, ◌≤◌, cond, List, [], ◌∷◌, ◌++◌, length, Some, None, Option, ◌==◌, nat_le}
-use Rattle.std.specs.List.{AllByRecursion as All}
+use Rattle.std.specs.List.{AllByRecursion}
 use Rattle.tree.specs.Tree.{Tree, piece, height, size, Balanced, Within, spell}
 use Rattle.tree.specs.Rules.{join, split}
 use Rattle.tree.specs.Stored.{Stored, Grows}
@@ -96,7 +96,7 @@ Fit texts limit trees (Some t) = Sound texts limit t × Stored trees t
 -- what is written behind `trees` is in order
 pub record Grown (texts : List (List ℕ)) (limit : ℕ) (trees new : List Tree) : Type 0 where
   pub grows : Grows trees new
-  pub sound : All (Sound texts limit) new
+  pub sound : AllByRecursion (Sound texts limit) new
 
 -- an edit makes a tree that spells `s`
 pub record Spells (texts : List (List ℕ)) (limit : ℕ) (trees : List Tree) (b : Made) (s : List ℕ) : Type 0 where

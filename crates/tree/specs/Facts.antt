@@ -1,6 +1,6 @@
 -- What is proved of the rules, the slots and the edits.
 use Rattle.std.specs.Prelude.{◌≡◌, ℕ, ◌+◌, ◌-◌, ◌*◌, ◌<◌, ◌≤◌, max, ◌↔◌, List, [], ◌∷◌, ◌++◌, length, take, drop, Some, None, Option, slice_index_or}
-use Rattle.std.specs.List.{AllByRecursion as All}
+use Rattle.std.specs.List.{AllByRecursion}
 use Rattle.shelf.specs.Texts.{limit, text, stretch}
 use Rattle.tree.specs.Tree.{Tree, piece, node, slot, height, size, pieces, Balanced, Within, spell}
 use Rattle.tree.specs.Side.{Side, left, right}
@@ -75,7 +75,7 @@ pub record JoinSums (n : ℕ) (l r : Tree) : Type 0 where
   pub size_is : size (join n l r).tree ≡ size l + size r
   pub pieces_is : pieces (join n l r).tree ≡ pieces l + pieces r
   pub spells : (texts : List (List ℕ)) → spell texts (join n l r).tree ≡ spell texts l ++ spell texts r
-  pub within : (texts : List (List ℕ)) → Within texts l → Within texts r → Within texts (join n l r).tree × All (Within texts) (join n l r).new
+  pub within : (texts : List (List ℕ)) → Within texts l → Within texts r → Within texts (join n l r).tree × AllByRecursion (Within texts) (join n l r).new
 
 abbrev pub JoinAdds : Type 0
 JoinAdds = (n : ℕ) (l r : Tree) → JoinSums n l r
@@ -85,7 +85,7 @@ pub record JoinFacts (n : ℕ) (l r : Tree) : Type 0 where
   pub balanced : Balanced (join n l r).tree
   pub low : max (height l) (height r) ≤ height (join n l r).tree
   pub high : height (join n l r).tree ≤ max (height l) (height r) + 1
-  pub all_balanced : All Balanced (join n l r).new
+  pub all_balanced : AllByRecursion Balanced (join n l r).new
   pub last : slot (join n l r).tree + 1 ≡ n + length (join n l r).new
   pub placed : (trees : List Tree) → length trees ≡ n → Stored trees l → Stored trees r → Placed trees (join n l r).new (join n l r).tree
   pub cost : (d : ℕ) → height l ≤ height r + d → height r ≤ height l + d → length (join n l r).new ≤ 3 * d + 1
@@ -97,7 +97,7 @@ JoinKeeps = (n : ℕ) (l r : Tree) → Balanced l → Balanced r → JoinFacts n
 pub record SplitFacts (n : ℕ) (t : Tree) (p : ℕ) : Type 0 where
   pub left_balanced : Balanced (split n t p).left
   pub right_balanced : Balanced (split n t p).right
-  pub all_balanced : All Balanced (split n t p).new
+  pub all_balanced : AllByRecursion Balanced (split n t p).new
   pub left_high : height (split n t p).left ≤ height t
   pub right_high : height (split n t p).right ≤ height t
   pub left_size : size (split n t p).left ≡ p
@@ -106,7 +106,7 @@ pub record SplitFacts (n : ℕ) (t : Tree) (p : ℕ) : Type 0 where
   pub front : (texts : List (List ℕ)) → Within texts t → spell texts (split n t p).left ≡ take p (spell texts t)
   pub rest : (texts : List (List ℕ)) → Within texts t → spell texts (split n t p).right ≡ drop p (spell texts t)
   pub within : (texts : List (List ℕ)) → Within texts t →
-      Within texts (split n t p).left × Within texts (split n t p).right × All (Within texts) (split n t p).new
+      Within texts (split n t p).left × Within texts (split n t p).right × AllByRecursion (Within texts) (split n t p).new
   pub placed : (trees : List Tree) → length trees ≡ n → Stored trees t → PlacedBoth trees (split n t p).new (split n t p).left (split n t p).right
   pub cost : length (split n t p).new ≤ 7 * height t + 2
 
@@ -145,7 +145,7 @@ HeightsBounded = Fibonacci × ManyPieces × LowLaw × LowUnder limit 42
 -- what is written in order stands at the next slots, and what was stored stays so
 pub record Growing (trees new : List Tree) : Type 0 where
   pub slots : (j : ℕ) (d : Tree) → j < length new → slot (slice_index_or new j d) ≡ length trees + j
-  pub all_stored : All (Stored (trees ++ new)) new
+  pub all_stored : AllByRecursion (Stored (trees ++ new)) new
   pub old_stored : (t : Tree) → Stored trees t → Stored (trees ++ new) t
 
 -- a list written from nothing: each slot's tree is stored, and when the list is cut back, what stands in the slots that are left stays stored

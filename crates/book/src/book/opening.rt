@@ -1,5 +1,5 @@
 ghost use Rattle.std.specs.Prelude.{◌≡◌, ◌≤◌, map, length, take};
-ghost use Rattle.std.specs.List.{AllByRecursion as All};
+ghost use Rattle.std.specs.List.{AllByRecursion};
 ghost use Rattle.shelf.specs.Texts.{limit, most_texts};
 ghost use Rattle.model.specs.Book.{new_book};
 ghost use Rattle.book.specs.Opening.{First};
@@ -26,7 +26,7 @@ fn note_lengths<S: Shelf>(shelf: &S) -> [usize; MOST_TEXTS]
 fn first_contents(count: usize, lens: [usize; MOST_TEXTS]) -> Contents
     requires few { count ≤ most_texts }
     requires fit { length lens ≡ most_texts }
-    requires short { All (λ n. n ≤ limit) (take count lens) }
+    requires short { AllByRecursion (λ n. n ≤ limit) (take count lens) }
     ensures { First result (take count lens) }
 {
     Contents {

@@ -1,5 +1,5 @@
 use Rattle.std.proofs.Common.{◌≤◌, take, sym, ap, ◌∙◌, subst, arith}
-use Rattle.std.specs.List.{AllByRecursion as All}
+use Rattle.std.specs.List.{AllByRecursion}
 use Rattle.shelf.specs.Texts.{limit}
 use Rattle.book.proofs.Noting.{short_texts, new_consistent, new_shown}
 use Rattle.book.proofs.book.opening.open_book.Goals as goal
@@ -11,7 +11,7 @@ first_contents-contents-requires g c =
     record {
       few = omega (arith, f.few);
       fit = c.note_lengths-lens.ensures.fit;
-      short = subst (All (λ n. n ≤ limit)) (sym (ap (λ n. take n c.note_lengths-lens.result) c.count.ensures ∙ c.note_lengths-lens.ensures.are))
+      short = subst (AllByRecursion (λ n. n ≤ limit)) (sym (ap (λ n. take n c.note_lengths-lens.result) c.count.ensures ∙ c.note_lengths-lens.ensures.are))
           (short_texts limit ts f.short);
     }
 
