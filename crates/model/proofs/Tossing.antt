@@ -8,7 +8,7 @@ use Rattle.model.specs.Calls.{BookCall, open_version, edit, keep, toss, read, fi
 use Rattle.model.specs.Book.{Draft, Book, settled_of, settled, built, with_draft}
 use Rattle.model.specs.Sheet.{Rule}
 use Rattle.model.specs.Runs.{State, step, run}
-use Rattle.model.specs.Unchanged.{Goes_on, TossingUndoes}
+use Rattle.model.specs.Unchanged.{GoesOn, TossingUndoes}
 use Rattle.model.proofs.Slots.{Extends, extends_refl, extends_append, extends_trans}
 use Rattle.model.proofs.Steps.{not_none, row, effect, by_row}
 
@@ -40,13 +40,13 @@ module _ {V : Type 0} (texts : List (List ℕ)) (rule : Rule V) where
       book : Over s.book t.book
       sheets : t.sheets ≡ s.sheets
 
-    goes_on : (t : State V) (c : BookCall) → Undoable t → Goes_on c → Undoable (step texts rule t (on_book c)).1
+    goes_on : (t : State V) (c : BookCall) → Undoable t → GoesOn c → Undoable (step texts rule t (on_book c)).1
     goes_on t c u g = by_row texts rule (λ o a. Undoable a.1) t (on_book c) (λ r. u) (λ p q. go c g)
       where
         o : Over s.book t.book
         o = u.book
 
-        go : (c : BookCall) → Goes_on c → Undoable (effect texts rule t (on_book c)).1
+        go : (c : BookCall) → GoesOn c → Undoable (effect texts rule t (on_book c)).1
         go (open_version v) g = record {
           book = record { extends = o.extends; base = o.base; kept = o.kept; lengths = o.lengths; room = o.room };
           sheets = u.sheets;
@@ -87,7 +87,7 @@ module _ {V : Type 0} (texts : List (List ℕ)) (rule : Rule V) where
               let passes : row t (on_book toss) ≡ None = ap (λ (x : Option Draft). cond (not (is_some (option_map (λ y. size_any y.tree) x))) (Some 7) None) e in
               not_none r (sym passes ∙ q)
 
-      between_tossed : (t : State V) → Undoable t → (between : List BookCall) → AllByRecursion Goes_on between →
+      between_tossed : (t : State V) → Undoable t → (between : List BookCall) → AllByRecursion GoesOn between →
           (run texts rule t (map on_book between ++ on_book toss ∷ [])).1 ≡ s
       between_tossed t u [] a = tossed t u
       between_tossed t u (c ∷ between) a = between_tossed (step texts rule t (on_book c)).1 (goes_on t c u a.0) between a.1

@@ -22,11 +22,11 @@ RefusalsChangeNothing {V} rule =
     (texts : List (List ℕ)) (s : State V) (c : Call) (row : ℕ) → (step texts rule s c).0 ≡ refused row → (step texts rule s c).1 ≡ s
 
 -- the call ends no draft
-abbrev pub Goes_on : BookCall → Type 0
-Goes_on c = (c ≢ keep) × (c ≢ toss)
+abbrev pub GoesOn : BookCall → Type 0
+GoesOn c = (c ≢ keep) × (c ≢ toss)
 
 -- where no draft is open: a version opened, any calls on the book that end no draft, and toss, leave all as it was
 abbrev pub TossingUndoes : {V : Type 0} → Rule V → Type 0
 TossingUndoes {V} rule =
-    (texts : List (List ℕ)) (s : State V) (v : ℕ) (between : List BookCall) → s.book.draft ≡ None → AllByRecursion Goes_on between →
+    (texts : List (List ℕ)) (s : State V) (v : ℕ) (between : List BookCall) → s.book.draft ≡ None → AllByRecursion GoesOn between →
     (run texts rule s (on_book (open_version v) ∷ map on_book between ++ on_book toss ∷ [])).1 ≡ s

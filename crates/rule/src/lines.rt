@@ -1,8 +1,6 @@
 ghost use Rattle.rule.specs.Rule.{saturating_sum};
 ghost use Rattle.rule.specs.Lines.{line_ends};
-ghost use Rattle.std.specs.Prelude.{if◌then◌else◌, nat_eq};
-ghost use Rattle.std.proofs.Common.{arith};
-ghost use Rattle.std.proofs.lemmas.List.Sums.{sum_by-append, count_by-le-length};
+ghost use Rattle.rule.specs.Counting.{line_ends_joins};
 
 use crate::Rule;
 
@@ -16,13 +14,7 @@ impl Rule for Lines {
 
     ghost joined = { saturating_sum };
 
-    ghost joins = { λ x y short.
-        omega (
-          arith,
-          sum_by-append (λ b. (if nat_eq b 0x0A then 1 else 0)) x y,
-          count_by-le-length (λ b. nat_eq b 0x0A) x,
-          count_by-le-length (λ b. nat_eq b 0x0A) y,
-        ) };
+    ghost joins = { line_ends_joins };
 
     fn empty() -> u32 {
         0
