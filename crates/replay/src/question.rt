@@ -1,4 +1,4 @@
-ghost use Rattle.std.specs.Prelude.{◌≡◌, List, map, length, IfOk};
+ghost use Rattle.std.specs.Prelude.{◌≡◌, map, length, IfOk};
 ghost use Rattle.shelf.specs.Texts.{stretch};
 ghost use Rattle.model.specs.Book.{book_step};
 ghost use Rattle.model.specs.Calls as calls;

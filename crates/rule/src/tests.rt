@@ -27,9 +27,9 @@ fn strings(rt: HostRuntime) {
 #[test]
 fn joins(rt: HostRuntime) {
     let most = u32::MAX;
-    assert_eq!(rt; <Lines as crate::Rule>::join(2, 3), 5);
-    assert_eq!(rt; <Lines as crate::Rule>::join(most, most), most);
-    assert_eq!(rt; <Lines as crate::Rule>::join(most - 1, 1), most);
+    assert_eq!(rt; Lines::join(2, 3), 5);
+    assert_eq!(rt; Lines::join(most, most), most);
+    assert_eq!(rt; Lines::join(most - 1, 1), most);
     let facing = value_of::<Brackets>(b")(");
     let table = [
         (facing, facing, pair(1, 1)),
@@ -40,6 +40,6 @@ fn joins(rt: HostRuntime) {
         (pair(0, most), pair(most, 0), pair(0, 0)),
     ];
     for (first, second, both) in table {
-        assert_eq!(rt; <Brackets as crate::Rule>::join(first, second), both);
+        assert_eq!(rt; Brackets::join(first, second), both);
     }
 }

@@ -20,9 +20,9 @@ impl<A, B> Pair<A, B> {
 }
 
 impl<A: Shelf, B: Shelf> Shelf for Pair<A, B> {
-    ghost texts = { λ p. pair_texts (A.Shelf.texts p.first) (B.Shelf.texts p.second) };
+    ghost texts = { λ p. pair_texts (A.texts p.first) (B.texts p.second) };
 
-    ghost fit = { λ p. pair_fit (A.Shelf.fit p.first) (B.Shelf.fit p.second) };
+    ghost fit = { λ p. pair_fit (A.fit p.first) (B.fit p.second) };
 
     fn count(&self) -> usize {
         (self.first.count() + self.second.count()).min(MOST_TEXTS)

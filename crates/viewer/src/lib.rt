@@ -1,9 +1,9 @@
 #![tactic(auto)]
 
 // What a fitter is shown of a trace file.
-ghost use Rattle.std.specs.Prelude.{◌≡◌, ℕ, cond, ◌++◌, is_ok, IfOk, codes, decimal};
+ghost use Rattle.std.specs.Prelude.{◌≡◌, ◌++◌, IfOk, codes, decimal};
 ghost use Rattle.std.specs.Option.{option_map};
-ghost use Rattle.shelf.specs.Frames.{frame_row, held_content};
+ghost use Rattle.shelf.specs.Frames.{held_content};
 ghost use Rattle.shelf.specs.Texts.{text};
 ghost use Rattle.viewer.specs.Shown.{shown, shown_content, shown_row, kind_words};
 
