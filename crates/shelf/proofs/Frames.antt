@@ -1,5 +1,5 @@
 -- The fields of a frame by its bytes, and the frames that no row refuses.
-use Rattle.std.proofs.Common.{◌≡◌, ℕ, ◌+◌, ◌*◌, ◌<◌, ◌≤◌, max, true, false, not, ◌&&◌, ◌||◌, eqb, ltb, ◌⊎◌, List, [], ◌∷◌, length, get_or, take, drop, Some, Ok, refl, ap, ◌∙◌, arith, length-drop}
+use Rattle.std.proofs.Common.{◌≡◌, ℕ, ◌+◌, ◌*◌, ◌<◌, ◌≤◌, max, true, false, not, ◌&&◌, ◌||◌, eqb, ltb, ◌⊎◌, List, [], ◌∷◌, length, get_or, take, drop, Ok, refl, ap, ◌∙◌, arith, length-drop}
 use Rattle.std.proofs.lemmas.List.{get_or-drop, take_all}
 use Rattle.std.proofs.lemmas.Bool.Decides.{nat_tests}
 use Rattle.shelf.specs.declared.frame.Kind.{Kind}
@@ -8,7 +8,7 @@ use Rattle.shelf.specs.declared.held.Held.{Held}
 use Rattle.shelf.specs.declared.ring.Ring as declared
 use Rattle.shelf.specs.declared.trace.Trace.{Trace}
 use Rattle.shelf.specs.Kinds.{ring_text}
-use Rattle.shelf.specs.Frames.{little_endian, said_length, says, body, ring_start, ring_memory, ring_fits, content, checked, kind_number, kind_of, held_content}
+use Rattle.shelf.specs.Frames.{little_endian, said_length, says, body, ring_start, ring_memory, ring_fits, content, checked, kind_number, kind_or_fault, held_content}
 use Rattle.shelf.specs.Texts.{limit, stretch}
 
 -- the number in two bytes, and in four
@@ -42,7 +42,7 @@ passes frame long kind short same =
     let d : (says frame Ring && not (ring_fits (body frame))) ≡ false = grind (arith, nat_tests) in
     rw (a, b, c, d) refl
 
-pub says_kind : (n : ℕ) (kind : Kind) → kind_of n ≡ Some kind → eqb n (kind_number kind) ≡ true
+pub says_kind : (n : ℕ) (kind : Kind) → kind_or_fault n ≡ Ok kind → eqb n (kind_number kind) ≡ true
 says_kind n Straight e = grind (arith, nat_tests)
 says_kind n Ring e = grind (arith, nat_tests)
 

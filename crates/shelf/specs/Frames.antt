@@ -1,5 +1,6 @@
 -- Trace frames: how one is laid out, when it is refused, and the text that it holds.
-use Rattle.std.specs.Prelude.{◌≡◌, ℕ, ◌+◌, ◌*◌, ◌<◌, ◌≤◌, Bool, true, false, cond, not, ◌&&◌, ◌||◌, List, [], ◌∷◌, length, drop, Some, None, Ok, Err, Option, Result, ◌==◌, nat_lt}
+use Rattle.std.specs.Prelude.{◌≡◌, ℕ, ◌+◌, ◌*◌, ◌<◌, ◌≤◌, Bool, true, false, cond, not, ◌&&◌, ◌||◌, List, [], ◌∷◌, length, drop, Some, None, Ok, Err, codes, Option, Result, ◌==◌, nat_lt}
+use Rattle.std.specs.Option.{ok_or}
 use Rattle.shelf.specs.declared.rows.Layer.TheVariants.{Shelf}
 use Rattle.shelf.specs.declared.rows.Row.{Row}
 use Rattle.shelf.specs.declared.frame.FrameFault.{FrameFault}
@@ -30,6 +31,15 @@ kind_number Ring = 2
 abbrev pub kind_of : ℕ → Option Kind
 kind_of number =
     cond (number == kind_number Straight) (Some Straight) (cond (number == kind_number Ring) (Some Ring) None)
+
+-- the kind of a number, or the fault of a frame that has it
+abbrev pub kind_or_fault : ℕ → Result Kind FrameFault
+kind_or_fault number = ok_or (kind_of number) UnknownKind
+
+-- the words that are printed for a kind
+abbrev pub kind_words : Kind → List ℕ
+kind_words Straight = codes "straight trace"
+kind_words Ring = codes "ring dump"
 
 -- the number that bytes stand for, the lowest byte first
 abbrev pub little_endian : List ℕ → ℕ

@@ -31,7 +31,7 @@ impl<'a> Received<'a> {
         ensures { outcome result ≡ checked self.entry.bytes.now }
     {
         let Head { length, kind, body } = split_head(self.bytes)?;
-        let kind = Kind::from_number(kind).ok_or(FrameFault::UnknownKind)?;
+        let kind = Kind::try_from(kind)?;
         if length > LIMIT || length != body.len() {
             return Err(FrameFault::WrongLength);
         }

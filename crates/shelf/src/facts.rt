@@ -3,15 +3,11 @@ ghost use Rattle.shelf.specs.Layout.{FramesYield};
 ghost use Rattle.shelf.specs.Order.{RowsInOrder};
 
 // Frames that were laid out yield their texts.
-pub fn laid_out_frames_yield() -> u8
+pub fn laid_out_frames_yield()
     ensures { FramesYield }
-{
-    0
-}
+{}
 
 // The faults of a call are listed in the order of their rows.
-pub fn rows_stand_in_order() -> u8
+pub fn rows_stand_in_order()
     ensures { RowsInOrder }
-{
-    0
-}
+{}

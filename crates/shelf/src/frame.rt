@@ -1,7 +1,8 @@
-ghost use Rattle.std.specs.Prelude.{◌≡◌};
-ghost use Rattle.shelf.specs.Frames.{frame_row, kind_of};
+ghost use Rattle.std.specs.Prelude.{◌≡◌, Some};
+ghost use Rattle.shelf.specs.Frames.{frame_row, kind_or_fault, kind_words};
 
 use super::rows::{Layer, Row};
+use std::fmt;
 
 // The two kinds of trace frame.
 #[derive(Clone, Copy, PartialEq, Eq, Debug)]
@@ -12,16 +13,28 @@ pub enum Kind {
     Ring,
 }
 
-impl Kind {
-    // The kind of a number, if it is one's.
-    pub fn from_number(number: u16) -> Option<Kind>
-        ensures { result ≡ kind_of number }
-    {
+impl TryFrom<u16> for Kind {
+    type Error = FrameFault;
+
+    ghost try_from_gives = { λ number result. result ≡ kind_or_fault number };
+
+    fn try_from(number: u16) -> Result<Kind, FrameFault> {
         match number {
-            1 => Some(Kind::Straight),
-            2 => Some(Kind::Ring),
-            _ => None,
+            1 => Ok(Kind::Straight),
+            2 => Ok(Kind::Ring),
+            _ => Err(FrameFault::UnknownKind),
         }
+    }
+}
+
+impl fmt::Display for Kind {
+    ghost output = { λ kind. Some (kind_words kind) };
+
+    fn fmt<W: fmt::Write>(&self, f: &mut fmt::Formatter<W>) -> fmt::Result {
+        f.write_str(match self {
+            Kind::Straight => "straight trace",
+            Kind::Ring => "ring dump",
+        })
     }
 }
 
@@ -39,6 +52,7 @@ pub enum FrameFault {
 }
 
 impl FrameFault {
+    // The numbers are this enum's own: a trait of all faults, or a `From`, would leave the same match.
     pub fn row(&self) -> Row
         ensures { result ≡ frame_row self.now }
     {

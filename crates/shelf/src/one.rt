@@ -1,4 +1,5 @@
-// What the shelves of one text share: the tests of the text's number and of a stretch.
+// What the shelves of one text share: the tests of the text's number and of a stretch. Their calls that differ in nothing are one
+// line each; a trait between would take more.
 ghost use Rattle.std.specs.Prelude.{◌≡◌, ℕ, ◌+◌, ◌≤◌, List, [], ◌∷◌, length, OnOk};
 ghost use Rattle.shelf.specs.Answers.{text_length, copy_answer};
 

@@ -20,6 +20,7 @@ pub enum CopyFault {
 }
 
 impl CopyFault {
+    // The numbers are this enum's own: a trait of all faults, or a `From`, would leave the same match.
     pub fn row(&self) -> Row
         ensures { result ≡ copy_row self.now }
     {

@@ -12,6 +12,7 @@ pub enum Trace<'a> {
     Ring(Ring<'a>),
 }
 
+// Not a shelf of any two types: the cases name the two kinds of frame, and are public.
 impl<'a> Shelf for Trace<'a> {
     ghost texts = { trace_texts };
 

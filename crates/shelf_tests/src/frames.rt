@@ -1,94 +1,86 @@
 use super::reading::shows;
-use shelf::{Kind, Received};
+use shelf::{FrameFault, Kind, Layer, Received, Row};
+use std::process::Abort;
 use std::test::Fail;
 
-struct Refused {
-    frame: &'static [u8],
-    row: u8,
+#[test]
+fn rows_of_frames(rt: HostRuntime) {
+    let table = [
+        (FrameFault::ShortFrame, 1),
+        (FrameFault::UnknownKind, 2),
+        (FrameFault::WrongLength, 3),
+        (FrameFault::BadRing, 4),
+    ];
+    let layer = Layer::Shelf;
+    for (fault, number) in table {
+        assert_eq!(rt; fault.row(), Row { number, layer });
+    }
 }
 
-const REFUSED: [Refused; 16] = [
-    // fewer than 6 bytes
-    Refused { frame: b"", row: 1 },
-    Refused {
-        frame: b"\x00\x00\x00\x00\x01",
-        row: 1,
-    },
-    // kinds 0, 3 and 513
-    Refused {
-        frame: b"\x00\x00\x00\x00\x00\x00",
-        row: 2,
-    },
-    Refused {
-        frame: b"\x00\x00\x00\x00\x03\x00",
-        row: 2,
-    },
-    Refused {
-        frame: b"\x00\x00\x00\x00\x01\x02",
-        row: 2,
-    },
-    // an unknown kind with a wrong length: the smaller row answers
-    Refused {
-        frame: b"\x09\x00\x00\x00\x03\x00a",
-        row: 2,
-    },
-    // the length one too small, one too large, and above LIMIT
-    Refused {
-        frame: b"\x01\x00\x00\x00\x01\x00ab",
-        row: 3,
-    },
-    Refused {
-        frame: b"\x03\x00\x00\x00\x01\x00ab",
-        row: 3,
-    },
-    Refused {
-        frame: b"\x01\x00\x00\x40\x01\x00a",
-        row: 3,
-    },
-    // a wrong length of a ring without a start: the smaller row answers
-    Refused {
-        frame: b"\x02\x00\x00\x00\x02\x00a",
-        row: 3,
-    },
-    // ring bodies of 0 to 3 bytes
-    Refused {
-        frame: b"\x00\x00\x00\x00\x02\x00",
-        row: 4,
-    },
-    Refused {
-        frame: b"\x01\x00\x00\x00\x02\x00\x00",
-        row: 4,
-    },
-    Refused {
-        frame: b"\x03\x00\x00\x00\x02\x00\x00\x00\x00",
-        row: 4,
-    },
-    // a start that is the memory's length, one beyond it, and 1 in an empty memory
-    Refused {
-        frame: b"\x07\x00\x00\x00\x02\x00\x03\x00\x00\x00abc",
-        row: 4,
-    },
-    Refused {
-        frame: b"\x07\x00\x00\x00\x02\x00\x04\x00\x00\x00abc",
-        row: 4,
-    },
-    Refused {
-        frame: b"\x04\x00\x00\x00\x02\x00\x01\x00\x00\x00",
-        row: 4,
-    },
-];
+// The check refuses each frame with this fault.
+fn refuses(rt: &impl Abort, fault: FrameFault, frames: &[&[u8]]) {
+    for frame in frames {
+        assert_eq!(rt; Received::new(*frame).check().err(), Some(fault));
+    }
+}
+
+// Fewer than 6 bytes.
+#[test]
+fn short_frames(rt: HostRuntime) {
+    refuses(&rt, FrameFault::ShortFrame, &[b"", b"\x00\x00\x00\x00\x01"]);
+}
 
 #[test]
-fn refused_frames(rt: HostRuntime) -> Result<(), Fail> {
-    for case in &REFUSED {
-        match Received::new(case.frame).check() {
-            Ok(_) => return Err(Fail::new("the frame passed")),
-            Err(fault) => assert_eq!(rt; fault.row().number, case.row),
-        }
-    }
-    Ok(())
+fn unknown_kinds(rt: HostRuntime) {
+    refuses(
+        &rt,
+        FrameFault::UnknownKind,
+        &[
+            // kinds 0, 3 and 513
+            b"\x00\x00\x00\x00\x00\x00",
+            b"\x00\x00\x00\x00\x03\x00",
+            b"\x00\x00\x00\x00\x01\x02",
+            // an unknown kind with a wrong length: the smaller row answers
+            b"\x09\x00\x00\x00\x03\x00a",
+        ],
+    );
 }
 
+#[test]
+fn wrong_lengths(rt: HostRuntime) {
+    refuses(
+        &rt,
+        FrameFault::WrongLength,
+        &[
+            // the length one too small, one too large, and above LIMIT
+            b"\x01\x00\x00\x00\x01\x00ab",
+            b"\x03\x00\x00\x00\x01\x00ab",
+            b"\x01\x00\x00\x40\x01\x00a",
+            // a wrong length of a ring without a start: the smaller row answers
+            b"\x02\x00\x00\x00\x02\x00a",
+        ],
+    );
+}
+
+#[test]
+fn bad_rings(rt: HostRuntime) {
+    refuses(
+        &rt,
+        FrameFault::BadRing,
+        &[
+            // ring bodies of 0 to 3 bytes
+            b"\x00\x00\x00\x00\x02\x00",
+            b"\x01\x00\x00\x00\x02\x00\x00",
+            b"\x03\x00\x00\x00\x02\x00\x00\x00\x00",
+            // a start that is the memory's length, one beyond it, and 1 in an empty memory
+            b"\x07\x00\x00\x00\x02\x00\x03\x00\x00\x00abc",
+            b"\x07\x00\x00\x00\x02\x00\x04\x00\x00\x00abc",
+            b"\x04\x00\x00\x00\x02\x00\x01\x00\x00\x00",
+        ],
+    );
+}
+
+// The check passes each frame, as one of this kind whose text is these bytes.
 struct Passed {
     frame: &'static [u8],
     kind: Kind,
@@ -139,10 +131,7 @@ const PASSED: [Passed; 7] = [
 #[test]
 fn passed_frames(rt: HostRuntime) -> Result<(), Fail> {
     for case in &PASSED {
-        let frame = match Received::new(case.frame).check() {
-            Ok(frame) => frame,
-            Err(_) => return Err(Fail::new("the frame was refused")),
-        };
+        let frame = Received::new(case.frame).check()?;
         assert_eq!(rt; frame.kind(), case.kind);
         shows(&rt, &frame.text(), 0, case.text)?;
     }

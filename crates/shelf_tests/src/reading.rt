@@ -3,13 +3,15 @@ use std::process::Abort;
 use std::test::Fail;
 
 // Text k of the shelf is `text`, by its length and its bytes.
-pub fn shows<S: Shelf>(rt: &impl Abort, shelf: &S, k: usize, text: &[u8]) -> Result<(), Fail> {
-    let n = text.len();
-    assert_eq!(rt; shelf.length(k), Some(n));
-    let mut buffer = [0u8; 8];
-    assert!(rt; n <= 8);
-    let out = &mut buffer[0..n];
-    shelf.copy(k, 0, out)?;
-    assert!(rt; *out == *text);
+pub fn shows<S: Shelf>(
+    rt: &(impl Abort + AllocGlobal),
+    shelf: &S,
+    k: usize,
+    text: &[u8],
+) -> Result<(), Fail> {
+    assert_eq!(rt; shelf.length(k), Some(text.len()));
+    let mut out = vec![in rt.alloc(); 0u8; text.len()]?;
+    shelf.copy(k, 0, out.as_mut_slice())?;
+    assert_eq!(rt; out.as_slice(), text);
     Ok(())
 }

@@ -14,8 +14,8 @@ fn rings_turn(rt: HostRuntime) -> Result<(), Fail> {
         (1_073_741_824, b"eabcd"),
         (usize::MAX, b"abcde"),
     ];
-    for (start, text) in &starts {
-        shows(&rt, &Ring::new(b"abcde", *start), 0, *text)?;
+    for (start, text) in starts {
+        shows(&rt, &Ring::new(b"abcde", start), 0, text)?;
     }
     Ok(())
 }

@@ -14,16 +14,9 @@ fn contents(rt: &HostRuntime, name: &str) -> io::Result<Option<Vec<u8>>> {
     }
 }
 
-fn lent(contents: &Option<Vec<u8>>) -> Option<&[u8]> {
-    match contents {
-        Some(bytes) => Some(bytes.as_slice()),
-        None => None,
-    }
-}
-
 fn show(rt: &HostRuntime, name: &str) -> anyhow::Result<()> {
     let contents = contents(rt, name)?;
-    let shown = view(rt.alloc(), name, lent(&contents))?;
+    let shown = view(rt.alloc(), name, contents.as_deref())?;
     rt.stdout().write_all(shown.as_slice())?;
     Ok(())
 }

@@ -1,13 +1,8 @@
--- Vectors made of the bytes of a line, and lines one behind the other.
-use Rattle.std.proofs.Common.{◌≡◌, ℕ, List, ◌++◌, length, IfOk, vec_items, codes, decimal, Result, Vec, ◌∙◌, append_assoc}
-use Rattle.std.proofs.lemmas.Result.{IfOk-weaker}
+-- The lines that show a checked frame.
+use Rattle.std.proofs.Common.{◌≡◌, ℕ, List, ◌++◌, length, codes, decimal, append_assoc}
 use Rattle.shelf.specs.declared.frame.Kind.{Kind}
-use Rattle.shelf.specs.Frames.{Content}
-use Rattle.viewer.specs.Shown.{kind_words, shown_content}
-
-pub made_line : {E Z : Type 0} (r : Result (Vec ℕ Z) E) (line bytes shown : List ℕ) → line ≡ bytes → bytes ≡ shown →
-    IfOk r (λ v. vec_items v ≡ line) → IfOk r (λ v. vec_items v ≡ shown)
-made_line r line bytes shown e f h = IfOk-weaker r _ _ (λ v (g : vec_items v ≡ line). g ∙ e ∙ f) h
+use Rattle.shelf.specs.Frames.{Content, kind_words}
+use Rattle.viewer.specs.Shown.{shown_content}
 
 -- the line of a checked frame, and its text on the line behind
 pub with_text : (name : List ℕ) (content : Content) (kind : Kind) (n : ℕ) (text : List ℕ) →

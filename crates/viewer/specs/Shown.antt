@@ -1,15 +1,9 @@
 -- What is shown of a trace file: its kind and length and its text, or the fault that refuses it.
 use Rattle.std.specs.Prelude.{ℕ, List, ◌++◌, length, Some, None, Ok, Err, codes, decimal, Option, Result}
 use Rattle.shelf.specs.declared.frame.FrameFault.{FrameFault}
-use Rattle.shelf.specs.declared.frame.Kind.{Kind}
-use Rattle.shelf.specs.declared.frame.Kind.TheVariants.{Straight, Ring}
 use Rattle.shelf.specs.declared.rows.Row.{Row}
-use Rattle.shelf.specs.Frames.{Content, checked, frame_row}
-use Rattle.shelf.specs.Rows.{layer_word}
-
-abbrev pub kind_words : Kind → List ℕ
-kind_words Straight = codes "straight trace"
-kind_words Ring = codes "ring dump"
+use Rattle.shelf.specs.Frames.{Content, checked, frame_row, kind_words}
+use Rattle.shelf.specs.Rows.{row_words}
 
 -- "ring dump, 4 bytes" and the text, each on a line
 abbrev pub shown_content : Content → List ℕ
@@ -18,7 +12,7 @@ shown_content content =
 
 -- "fault 3 shelf" on a line
 abbrev pub shown_row : Row → List ℕ
-shown_row row = codes "fault " ++ (decimal row.number ++ (codes " " ++ (layer_word row.layer ++ codes "\n")))
+shown_row row = codes "fault " ++ (row_words row ++ codes "\n")
 
 abbrev pub shown_check : Result Content FrameFault → List ℕ
 shown_check (Ok content) = shown_content content

@@ -3,14 +3,14 @@
 // What a fitter is shown of a trace file.
 ghost use Rattle.std.specs.Prelude.{◌≡◌, ◌++◌, IfOk, codes, decimal};
 ghost use Rattle.std.specs.Option.{option_map};
-ghost use Rattle.shelf.specs.Frames.{held_content};
+ghost use Rattle.shelf.specs.Frames.{held_content, kind_words};
 ghost use Rattle.shelf.specs.Texts.{text};
-ghost use Rattle.viewer.specs.Shown.{shown, shown_content, shown_row, kind_words};
+ghost use Rattle.viewer.specs.Shown.{shown, shown_content, shown_row};
 
 use shelf::{Checked, Kind, Received, Row, Shelf};
 use std::alloc::{AllocError, Global};
 
-// The bytes of text k, or none where k is not a text.
+// The bytes of text k, or none where k is not a text: it has length 0 then, and its copy is refused.
 fn text_bytes<S: Shelf>(heap: Global, shelf: &S, k: usize) -> Result<Vec<u8>, AllocError>
     ensures { IfOk result (λ v. v.items ≡ text (S.texts shelf.now) k) }
 {
@@ -24,37 +24,21 @@ fn text_bytes<S: Shelf>(heap: Global, shelf: &S, k: usize) -> Result<Vec<u8>, Al
 fn view_row(heap: Global, name: &str, row: Row) -> Result<Vec<u8>, AllocError>
     ensures { IfOk result (λ v. v.items ≡ name.now ++ (codes ": " ++ shown_row row)) }
 {
-    let number = row.number;
-    let layer = row.layer.word();
-    let line = format!(in heap; "{name}: fault {number} {layer}\n")?;
-    Vec::from_slice(heap, line.as_bytes())
+    Ok(format!(in heap; "{name}: fault {row}\n")?.into_bytes())
 }
 
 // A missing file, on a line.
 fn view_missing(heap: Global, name: &str) -> Result<Vec<u8>, AllocError>
     ensures { IfOk result (λ v. v.items ≡ name.now ++ codes ": missing\n") }
 {
-    let mut out = Vec::from_slice(heap, name.as_bytes())?;
-    out.extend_from_slice(b": missing\n")?;
-    Ok(out)
+    Ok(format!(in heap; "{name}: missing\n")?.into_bytes())
 }
 
 // The kind and the length of a text, on a line.
 fn view_kind(heap: Global, name: &str, kind: Kind, length: usize) -> Result<Vec<u8>, AllocError>
     ensures { IfOk result (λ v. v.items ≡ name.now ++ (codes ": " ++ (kind_words kind ++ (codes ", " ++ (decimal length ++ codes " bytes\n"))))) }
 {
-    let kind = kind_word(kind);
-    let line = format!(in heap; "{name}: {kind}, {length} bytes\n")?;
-    Vec::from_slice(heap, line.as_bytes())
-}
-
-fn kind_word(kind: Kind) -> &'static str
-    ensures { result.now ≡ kind_words kind }
-{
-    match kind {
-        Kind::Straight => "straight trace",
-        Kind::Ring => "ring dump",
-    }
+    Ok(format!(in heap; "{name}: {kind}, {length} bytes\n")?.into_bytes())
 }
 
 // A checked frame: its kind and length on a line, and its text on the next.

@@ -1,6 +1,6 @@
 use Rattle.std.proofs.Common.{◌≡◌, ◌≤◌, true, length, Ok, sym, ap, ◌∙◌, inl, inr, arith}
 use Rattle.shelf.specs.declared.frame.Kind.TheVariants.{Straight, Ring}
-use Rattle.shelf.specs.Frames.{said_length, said_kind, body, says, kind_of, held_content, ring_memory, ring_start, ring_fits}
+use Rattle.shelf.specs.Frames.{said_length, said_kind, body, says, kind_or_fault, held_content, ring_memory, ring_start, ring_fits}
 use Rattle.shelf.specs.Texts.{limit}
 use Rattle.shelf.proofs.Frames.{passes, says_kind, straight_content, ring_content}
 use Rattle.shelf.proofs.check.Received.check.Goals as goal
@@ -14,7 +14,7 @@ returns c =
     let same : said_length frame ≡ length (body frame) = sym h.1 ∙ c.if-length-body.false ∙ ap length h.3 in
     let low : length (body frame) ≤ limit = omega arith in
     let kind = says_kind (said_kind frame) c.in_ok-kind.kind
-    (ap kind_of (sym h.2) ∙ sym c.from_number.ensures ∙ c.in_ok-kind.ensures.ok_part) in
+    (ap kind_or_fault (sym h.2) ∙ sym c.in_ok-kind.ensures) in
     elim c.match-kind.branch [
       | in-Straight w ↦
           let said : says frame Straight ≡ true = rw w.in-Straight.is at kind in
