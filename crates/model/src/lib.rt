@@ -15,72 +15,52 @@ use rule::Rule;
 
 // The law of kept versions, for any summary rule: in every run of calls on a new book and new sheets, versions, refusals and
 // answers are the plain book's, trees are those that the rules of trees allow, and summaries are the rule's values.
-pub fn law_of_kept_versions<R: Rule>() -> u8
+pub fn law_of_kept_versions<R: Rule>()
     ensures { Law (record { value = R.value; joined = R.joined }) }
-{
-    0
-}
+{}
 
 // A history that leads to the state before a call, with that call added, leads to the state after it. So the law speaks of every
 // program that makes the calls one by one, each of which is held to the machine's step.
-pub fn histories_go_on<R: Rule>() -> u8
+pub fn histories_go_on<R: Rule>()
     ensures { HistoriesGoOn (record { value = R.value; joined = R.joined }) }
-{
-    0
-}
+{}
 
 // A version that is kept never changes, whatever calls follow.
-pub fn kept_versions_stay<R: Rule>() -> u8
+pub fn kept_versions_stay<R: Rule>()
     ensures { VersionsStay (record { value = R.value; joined = R.joined }) }
-{
-    0
-}
+{}
 
 // What a sheet covers stays covered, whatever calls follow.
-pub fn coverage_stays<R: Rule>() -> u8
+pub fn coverage_stays<R: Rule>()
     ensures { CoverageStays (record { value = R.value; joined = R.joined }) }
-{
-    0
-}
+{}
 
 // A refused call leaves the book and the sheets as they were.
-pub fn refused_calls_change_nothing<R: Rule>() -> u8
+pub fn refused_calls_change_nothing<R: Rule>()
     ensures { RefusalsChangeNothing (record { value = R.value; joined = R.joined }) }
-{
-    0
-}
+{}
 
 // A draft that is opened, edited and tossed leaves all as it was.
-pub fn tossed_drafts_leave_no_trace<R: Rule>() -> u8
+pub fn tossed_drafts_leave_no_trace<R: Rule>()
     ensures { TossingUndoes (record { value = R.value; joined = R.joined }) }
-{
-    0
-}
+{}
 
 // The table of rows: the numbers of each call's rows go up, and the tests decide the conditions.
-pub fn rows_are_decided<R: Rule>() -> u8
+pub fn rows_are_decided<R: Rule>()
     ensures { TableFacts R.Value }
-{
-    0
-}
+{}
 
 // Find answers the first place at or after the given one where the pattern stands.
-pub fn find_answers_the_first_place() -> u8
+pub fn find_answers_the_first_place()
     ensures { FindsTheFirst }
-{
-    0
-}
+{}
 
 // The definitions give what was worked out by hand.
-pub fn worked_examples() -> u8
+pub fn worked_examples()
     ensures { WorkedExamples }
-{
-    0
-}
+{}
 
 // Two runs of calls on the machine are answered as they were worked out by hand.
-pub fn sample_runs() -> u8
+pub fn sample_runs()
     ensures { SampleRuns }
-{
-    0
-}
+{}

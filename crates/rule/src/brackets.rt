@@ -4,7 +4,7 @@ ghost use Rattle.rule.specs.Matching.{unmatched_joins};
 use crate::Rule;
 
 // The brackets of a string that have no partner in it: all closings among them stand before all openings.
-#[derive(Clone, Copy, PartialEq, Eq, Debug)]
+#[derive(Clone, Copy, PartialEq, Eq, Debug, Default)]
 pub struct Unmatched {
     // How many ")" have no "(" before them to close.
     pub closings: u32,
@@ -25,10 +25,7 @@ impl Rule for Brackets {
     ghost joins = { unmatched_joins };
 
     fn empty() -> Unmatched {
-        Unmatched {
-            closings: 0,
-            openings: 0,
-        }
+        Unmatched::default()
     }
 
     fn byte(b: u8) -> Unmatched {

@@ -21,7 +21,7 @@ impl Rule for Lines {
     }
 
     fn byte(b: u8) -> u32 {
-        if b == b'\n' { 1 } else { 0 }
+        u32::from(b == b'\n')
     }
 
     fn join(a: u32, b: u32) -> u32 {
