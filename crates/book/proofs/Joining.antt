@@ -16,12 +16,13 @@ use Rattle.book.specs.declared.node.NoRoom.{NoRoom}
 use Rattle.book.specs.declared.node.Side.{Side}
 use Rattle.book.specs.declared.node.Side.TheVariants.{Left, Right}
 use Rattle.book.specs.Sides.{tree_side, ordered, sides_of}
+use Rattle.book.specs.Built.{in_turn}
 use Rattle.book.specs.Records.{no_node, Store, tree_in, Ready}
 use Rattle.book.specs.Building.{one, Pair, Level, Leaning, Higher, Made, Lacks, Builds}
 use Rattle.book.proofs.Heights.{low}
 use Rattle.book.proofs.Stores.{stands_at, stays, more_used, lacks_later}
 use Rattle.book.proofs.Forks.{Forks, forked, sides_held}
-use Rattle.book.proofs.Builds.{InTurn, made_then, builds_as, done, fails}
+use Rattle.book.proofs.Builds.{made_then, builds_as, done, fails}
 
 pub height_fits : {s : Store} → Ready s → (i : ℕ) → i < s.used → (get_or s.records i no_node).height < 255
 height_fits d i h = let k = stands_at d i h in omega (arith, low _ k.balanced k.filled k.short)
@@ -33,7 +34,7 @@ module _ {s : Store} (l r : ℕ) (p : Pair s l r) (h : Higher (get_or s.records 
       let k = stands_at p.ready l p.left in
       let j = stands_at p.ready r p.right in record { pair = p; near = (omega arith, omega arith) }
 
-  pub level_done : {s' : Store} {q : Result Built NoRoom} → Builds s s' (one (on left s.used (tree_in s l) (tree_in s r))) q →
+  pub level_done : {s' : Store} {q : Result (Built ℕ) NoRoom} → Builds s s' (one (on left s.used (tree_in s l) (tree_in s r))) q →
       Builds s s' (join s.used (tree_in s l) (tree_in s r)) q
   level_done g = builds_as (sym (join_level left s.used (tree_in s l) (tree_in s r) level_pair.near.0 level_pair.near.1)) g
 
@@ -126,11 +127,11 @@ module _ {s : Store} (side : Side) (l r : ℕ) (p : Pair s l r) (h : Higher (get
       Builds s s₁ (join s.used (tree_in s l) (tree_in s r)) (Err er)
   inner_fails q = fails joined (simp length-append (omega arith)) q
 
-  module _ {s₁ : Store} (t : Built) (m : Made s s₁ (join s.used (tree_in s xy.0) (tree_in s xy.1)) t) where
+  module _ {s₁ : Store} (t : Built ℕ) (m : Made s s₁ (join s.used (tree_in s xy.0) (tree_in s xy.1)) t) where
     same : tree_in s₁ ab.0 ≡ tree_in s ab.0
     same = stays p.ready m.wrote ab.0 held.0
 
-    pub leaning : Leaning s₁ ab.0 t.slot
+    pub leaning : Leaning s₁ ab.0 t.value
     leaning =
         let k = forks in
         let a = apart in
@@ -152,7 +153,7 @@ module _ {s : Store} (side : Side) (l r : ℕ) (p : Pair s l r) (h : Higher (get
           high = rw (x, y) (omega arith);
         }
 
-    turned : write s₁.used (lean (tree_side side) (tree_in s₁ ab.0) (tree_in s₁ t.slot))
+    turned : write s₁.used (lean (tree_side side) (tree_in s₁ ab.0) (tree_in s₁ t.value))
         ≡ write (s.used + length (join s.used (tree_in s xy.0) (tree_in s xy.1)).new)
         (lean (tree_side side) (tree_in s ab.0) (join s.used (tree_in s xy.0) (tree_in s xy.1)).tree)
     turned =
@@ -160,10 +161,10 @@ module _ {s : Store} (side : Side) (l r : ℕ) (p : Pair s l r) (h : Higher (get
         let y = m.tree in
         let u = m.wrote.used in rw (x, y, u)
 
-    pub top_fails : {s₂ : Store} {er : NoRoom} → Lacks s₁ s₂ (length (write s₁.used (lean (tree_side side) (tree_in s₁ ab.0) (tree_in s₁ t.slot))).new) →
+    pub top_fails : {s₂ : Store} {er : NoRoom} → Lacks s₁ s₂ (length (write s₁.used (lean (tree_side side) (tree_in s₁ ab.0) (tree_in s₁ t.value))).new) →
         Builds s s₂ (join s.used (tree_in s l) (tree_in s r)) (Err er)
     top_fails q = fails joined (simp length-append (omega (arith, ap (λ b. length b.new) turned))) (lacks_later m.wrote q)
 
-    pub join_done : {s₂ : Store} (u b : Built) → Made s₁ s₂ (write s₁.used (lean (tree_side side) (tree_in s₁ ab.0) (tree_in s₁ t.slot))) u → InTurn t u b →
-        Builds s s₂ (join s.used (tree_in s l) (tree_in s r)) (Ok b)
-    join_done u b n i = done (ap (then (join s.used (tree_in s xy.0) (tree_in s xy.1))) turned ∙ joined) (made_then m n i)
+    pub join_done : {s₂ : Store} (u : Built ℕ) → Made s₁ s₂ (write s₁.used (lean (tree_side side) (tree_in s₁ ab.0) (tree_in s₁ t.value))) u →
+        Builds s s₂ (join s.used (tree_in s l) (tree_in s r)) (Ok (in_turn t u))
+    join_done u n = done (ap (then (join s.used (tree_in s xy.0) (tree_in s xy.1))) turned ∙ joined) (made_then m n)

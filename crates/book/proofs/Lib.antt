@@ -16,3 +16,4 @@ pub mod Redrafting
 pub mod EditRows
 pub mod Noting
 pub mod Settled
+pub mod Reading

@@ -1,8 +1,10 @@
 -- The noted lengths of the texts, and the contents of a new book.
-use Rattle.std.proofs.Common.{◌≡◌, ℕ, suc, ◌+◌, ◌<◌, ◌≤◌, true, false, List, [], ◌∷◌, ◌++◌, map, length, get_or, take, set, None, Option, unwrap_or, sym, ap, ◌∙◌, ap₂, ⊎_elim, arith}
+use Rattle.std.proofs.Common.{◌≡◌, ℕ, suc, ◌<◌, ◌≤◌, Bool, true, false, not, eqb, List, [], ◌∷◌, map, length, get_or, Some, None, Option, sym, ap, ◌∙◌, ap₂, ⊎_elim, arith}
+use Rattle.std.specs.Option.{option_eq}
 use Rattle.std.specs.List.{AllByRecursion}
-use Rattle.std.proofs.lemmas.List.{take_more, take_more_set, get_or-map, length-map}
-use Rattle.std.proofs.lemmas.Bool.{lt-leb, cond-false, cases_Bool}
+use Rattle.std.proofs.lemmas.List.{get_or-map}
+use Rattle.std.proofs.lemmas.Bool.{lt-leb, cond-false, cases_Bool, true≢false}
+use Rattle.std.proofs.lemmas.Bool.Decides.{eqb_tells}
 use Rattle.shelf.specs.Answers.{text_length}
 use Rattle.model.specs.Book.{new_book, same}
 use Rattle.model.proofs.Tables.{decides_same}
@@ -17,16 +19,16 @@ use Rattle.book.specs.Tests.{consistent}
 use Rattle.book.specs.View.{draft_view, view_of}
 use Rattle.book.proofs.Tested.{passes}
 
--- the answer of a shelf, as a number
-module _ (ts : List (List ℕ)) (k n : ℕ) (o : Option ℕ) (h : k < length ts) (e : o ≡ text_length ts k) (is : n ≡ unwrap_or o 0) where
-  pub length_told : n ≡ get_or (map length ts) k 0
-  length_told = is ∙ ap (λ x. unwrap_or x 0) (e ∙ cond-false _ _ _ (lt-leb (length ts) k h)) ∙ sym (get_or-map length ts k [] 0 h)
+-- the answer of a shelf, and whether it is a number
+module _ (ts : List (List ℕ)) (k n : ℕ) {o : Option ℕ} {other : Bool} (h : k < length ts) (e : o ≡ text_length ts k) (is : other ≡ not (option_eq eqb o (Some n))) where
+  told : other ≡ not (eqb (get_or (map length ts) k 0) n)
+  told = is ∙ ap (λ x. not (option_eq eqb x (Some n))) (e ∙ cond-false _ _ _ (lt-leb (length ts) k h) ∙ ap Some (sym (get_or-map length ts k [] 0 h)))
 
-  -- one length more
-  pub note_more : (lens : List ℕ) → k < length lens → take k lens ≡ take k (map length ts) → take (k + 1) (set lens k n) ≡ take (k + 1) (map length ts)
-  note_more lens l before =
-      take_more_set lens k n l ∙ ap (λ x. x ++ n ∷ []) before ∙ ap (λ x. take k (map length ts) ++ x ∷ []) length_told
-      ∙ sym (take_more (map length ts) k 0 (omega (arith, length-map ts (length {A = ℕ}))))
+  pub same_length : other ≡ false → get_or (map length ts) k 0 ≡ n
+  same_length f = ⊎_elim (λ p. p.1) (λ p. absurd (true≢false (ap not (sym p.0) ∙ sym told ∙ f))) (eqb_tells (get_or (map length ts) k 0) n)
+
+  pub other_length : other ≡ true → get_or (map length ts) k 0 ≡ n → ⊥
+  other_length t = ⊎_elim (λ p. absurd (true≢false (sym t ∙ told ∙ ap not p.0))) (λ p. p.1) (eqb_tells (get_or (map length ts) k 0) n)
 
 pub short_texts : (most : ℕ) (ts : List (List ℕ)) → ((k : ℕ) → length (get_or ts k []) ≤ most) → AllByRecursion (λ n. n ≤ most) (map length ts)
 short_texts most [] h = tt

@@ -11,7 +11,6 @@ use Rattle.tree.proofs.Splits.{splits}
 use Rattle.tree.proofs.Steps.{split_smaller, split_between, split_larger}
 use Rattle.book.specs.declared.node.Built.{Built}
 use Rattle.book.specs.declared.node.NoRoom.{NoRoom}
-use Rattle.book.specs.declared.node.Parts.{Parts}
 use Rattle.book.specs.declared.node.Shape.TheVariants.{Piece, Fork}
 use Rattle.book.specs.Records.{no_node, Filled, Stands, Store, in_use, tree_in}
 use Rattle.book.specs.Building.{one, Pair, Made, Lacks}
@@ -20,7 +19,7 @@ use Rattle.book.proofs.Grown.{Reads}
 use Rattle.book.proofs.Stores.{stands_at, reads_at, stays, more, more_used, nothing, lacks_later, lacks_more}
 use Rattle.book.proofs.Forks.{Forks, forks_at}
 
-splits_as : {s s' : Store} {p q : rules.Parts} {r : Result Parts NoRoom} → p ≡ q → Splits s s' p r → Splits s s' q r
+splits_as : {s s' : Store} {p q : rules.Parts} {r : Result (Built (ℕ × ℕ)) NoRoom} → p ≡ q → Splits s s' p r → Splits s s' q r
 splits_as {s} {s'} {r = r} e g = subst (λ x. Splits s s' x r) e g
 
 no_split : {s s' : Store} {p q : rules.Parts} {m : ℕ} {e : NoRoom} → p ≡ q → m ≤ length p.new → Lacks s s' m → Splits s s' q (Err e)
@@ -51,12 +50,12 @@ module _ {s : Store} (t p : ℕ) (d : Inside s t p) where
     pub piece_fails : {s₁ : Store} {er : NoRoom} → Lacks s s₁ 1 → Splits s s₁ (split s.used (tree_in s t) p) (Err er)
     piece_fails q = no_split halves (omega arith) q
 
-    module _ {s₁ : Store} (x : Built) (m : Made s s₁ (one (piece s.used k i p)) x) where
+    module _ {s₁ : Store} (x : Built ℕ) (m : Made s s₁ (one (piece s.used k i p)) x) where
       pub piece_fails₂ : {s₂ : Store} {er : NoRoom} → Lacks s₁ s₂ 1 → Splits s s₂ (split s.used (tree_in s t) p) (Err er)
       piece_fails₂ q = no_split halves (omega arith) (lacks_later m.wrote q)
 
-      pub piece_done : {s₂ : Store} (y : Built) → Made s₁ s₂ (one (piece s₁.used k (i + p) ((get_or s.records t no_node).len - p))) y →
-          Splits s s₂ (split s.used (tree_in s t) p) (Ok (record { left = x.slot; right = y.slot; made = x.made + y.made }))
+      pub piece_done : {s₂ : Store} (y : Built ℕ) → Made s₁ s₂ (one (piece s₁.used k (i + p) ((get_or s.records t no_node).len - p))) y →
+          Splits s s₂ (split s.used (tree_in s t) p) (Ok (record { value = (x.value, y.value); made = x.made + y.made }))
       piece_done {s₂} y m' =
           let u : s₁.used ≡ s.used + 1 = m.wrote.used in
           let n = subst (λ v. Made s₁ s₂ (one (piece v k (i + p) ((get_or s.records t no_node).len - p))) y) u m' in
@@ -69,7 +68,7 @@ module _ {s : Store} (t p : ℕ) (d : Inside s t p) where
               wrote = more m.wrote n.wrote;
               left_slot = omega arith;
               right_slot = n.slot;
-              left = stays m.wrote.ready n.wrote x.slot m.slot ∙ m.tree;
+              left = stays m.wrote.ready n.wrote x.value m.slot ∙ m.tree;
               right = n.tree;
               made = omega arith;
             };
@@ -97,7 +96,7 @@ module _ {s : Store} (t p : ℕ) (d : Inside s t p) where
     halved : split s.used (node t (tree_in s l) (tree_in s r)) p ≡ split s.used (tree_in s t) p
     halved = ap (λ z. split s.used z p) (sym forks.tree)
 
-    pub between_done : p ≡ (get_or s.records l no_node).len → Splits s s (split s.used (tree_in s t) p) (Ok (record { left = l; right = r; made = 0 }))
+    pub between_done : p ≡ (get_or s.records l no_node).len → Splits s s (split s.used (tree_in s t) p) (Ok (record { value = (l, r); made = 0 }))
     between_done h = splits_as (sym (split_between s.used t (tree_in s l) (tree_in s r) p (h ∙ len_is)) ∙ halved)
         (record { case = record { wrote = nothing d.ready; left_slot = held.0; right_slot = held.1; left = refl; right = refl; made = refl } })
 
@@ -121,11 +120,11 @@ module _ {s : Store} (t p : ℕ) (d : Inside s t p) where
       pub left_fails : {s₁ : Store} {er : NoRoom} → Lacks s s₁ (length (split s.used (tree_in s l) p).new) → Splits s s₁ (split s.used (tree_in s t) p) (Err er)
       left_fails q = no_split on_left (simp length-append (omega arith)) q
 
-      module _ {s₁ : Store} (q : Parts) (m : Parted s s₁ (split s.used (tree_in s l) p) q) where
+      module _ {s₁ : Store} (q : Built (ℕ × ℕ)) (m : Parted s s₁ (split s.used (tree_in s l) p) q) where
         same_r : tree_in s₁ r ≡ tree_in s r
         same_r = stays d.ready m.wrote r held.1
 
-        pub left_pair : Pair s₁ q.right r
+        pub left_pair : Pair s₁ q.value.1 r
         left_pair =
             let z = sizes l p left_inside in
             let k = short in
@@ -135,19 +134,19 @@ module _ {s : Store} (t p : ℕ) (d : Inside s t p) where
             let hr = held.1 in
             record { ready = m.wrote.ready; left = m.right_slot; right = omega arith; short = rw (x, y) (omega arith) }
 
-        joins_left : join s₁.used (tree_in s₁ q.right) (tree_in s₁ r)
+        joins_left : join s₁.used (tree_in s₁ q.value.1) (tree_in s₁ r)
             ≡ join (s.used + length (split s.used (tree_in s l) p).new) (split s.used (tree_in s l) p).right (tree_in s r)
         joins_left =
             let x = m.right in
             let y = same_r in
             let u = m.wrote.used in rw (x, y, u)
 
-        pub left_fails₂ : {s₂ : Store} {er : NoRoom} → Lacks s₁ s₂ (length (join s₁.used (tree_in s₁ q.right) (tree_in s₁ r)).new) →
+        pub left_fails₂ : {s₂ : Store} {er : NoRoom} → Lacks s₁ s₂ (length (join s₁.used (tree_in s₁ q.value.1) (tree_in s₁ r)).new) →
             Splits s s₂ (split s.used (tree_in s t) p) (Err er)
         left_fails₂ f = no_split on_left (simp length-append (omega (arith, ap (λ b. length b.new) joins_left))) (lacks_later m.wrote f)
 
-        pub left_done : {s₂ : Store} (b : Built) → Made s₁ s₂ (join s₁.used (tree_in s₁ q.right) (tree_in s₁ r)) b →
-            Splits s s₂ (split s.used (tree_in s t) p) (Ok (record { left = q.left; right = b.slot; made = q.made + b.made }))
+        pub left_done : {s₂ : Store} (b : Built ℕ) → Made s₁ s₂ (join s₁.used (tree_in s₁ q.value.1) (tree_in s₁ r)) b →
+            Splits s s₂ (split s.used (tree_in s t) p) (Ok (record { value = (q.value.0, b.value); made = q.made + b.made }))
         left_done {s₂} b m' =
             let n = subst (λ j. Made s₁ s₂ j b) joins_left m' in
             let le = more_used n.wrote in
@@ -159,7 +158,7 @@ module _ {s : Store} (t p : ℕ) (d : Inside s t p) where
                 wrote = more m.wrote n.wrote;
                 left_slot = omega arith;
                 right_slot = n.slot;
-                left = stays m.wrote.ready n.wrote q.left m.left_slot ∙ m.left;
+                left = stays m.wrote.ready n.wrote q.value.0 m.left_slot ∙ m.left;
                 right = n.tree;
                 made = simp length-append (omega arith);
               };
@@ -183,11 +182,11 @@ module _ {s : Store} (t p : ℕ) (d : Inside s t p) where
       pub right_fails : {s₁ : Store} {er : NoRoom} → Lacks s s₁ (length (split s.used (tree_in s r) rest).new) → Splits s s₁ (split s.used (tree_in s t) p) (Err er)
       right_fails q = no_split on_right (simp length-append (omega arith)) q
 
-      module _ {s₁ : Store} (q : Parts) (m : Parted s s₁ (split s.used (tree_in s r) rest) q) where
+      module _ {s₁ : Store} (q : Built (ℕ × ℕ)) (m : Parted s s₁ (split s.used (tree_in s r) rest) q) where
         same_l : tree_in s₁ l ≡ tree_in s l
         same_l = stays d.ready m.wrote l held.0
 
-        pub right_pair : Pair s₁ l q.left
+        pub right_pair : Pair s₁ l q.value.0
         right_pair =
             let z = sizes r rest right_inside in
             let k = short in
@@ -197,19 +196,19 @@ module _ {s : Store} (t p : ℕ) (d : Inside s t p) where
             let hl = held.0 in
             record { ready = m.wrote.ready; left = omega arith; right = m.left_slot; short = rw (x, y) (omega arith) }
 
-        joins_right : join s₁.used (tree_in s₁ l) (tree_in s₁ q.left)
+        joins_right : join s₁.used (tree_in s₁ l) (tree_in s₁ q.value.0)
             ≡ join (s.used + length (split s.used (tree_in s r) rest).new) (tree_in s l) (split s.used (tree_in s r) rest).left
         joins_right =
             let x = m.left in
             let y = same_l in
             let u = m.wrote.used in rw (x, y, u)
 
-        pub right_fails₂ : {s₂ : Store} {er : NoRoom} → Lacks s₁ s₂ (length (join s₁.used (tree_in s₁ l) (tree_in s₁ q.left)).new) →
+        pub right_fails₂ : {s₂ : Store} {er : NoRoom} → Lacks s₁ s₂ (length (join s₁.used (tree_in s₁ l) (tree_in s₁ q.value.0)).new) →
             Splits s s₂ (split s.used (tree_in s t) p) (Err er)
         right_fails₂ f = no_split on_right (simp length-append (omega (arith, ap (λ b. length b.new) joins_right))) (lacks_later m.wrote f)
 
-        pub right_done : {s₂ : Store} (b : Built) → Made s₁ s₂ (join s₁.used (tree_in s₁ l) (tree_in s₁ q.left)) b →
-            Splits s s₂ (split s.used (tree_in s t) p) (Ok (record { left = b.slot; right = q.right; made = q.made + b.made }))
+        pub right_done : {s₂ : Store} (b : Built ℕ) → Made s₁ s₂ (join s₁.used (tree_in s₁ l) (tree_in s₁ q.value.0)) b →
+            Splits s s₂ (split s.used (tree_in s t) p) (Ok (record { value = (b.value, q.value.1); made = q.made + b.made }))
         right_done {s₂} b m' =
             let n = subst (λ j. Made s₁ s₂ j b) joins_right m' in
             let le = more_used n.wrote in
@@ -222,7 +221,7 @@ module _ {s : Store} (t p : ℕ) (d : Inside s t p) where
                 left_slot = n.slot;
                 right_slot = omega arith;
                 left = n.tree;
-                right = stays m.wrote.ready n.wrote q.right m.right_slot ∙ m.right;
+                right = stays m.wrote.ready n.wrote q.value.1 m.right_slot ∙ m.right;
                 made = simp length-append (omega arith);
               };
             })

@@ -19,7 +19,7 @@ use Rattle.book.specs.declared.fault.BookFault.{BookFault}
 use Rattle.book.specs.declared.fault.BookFault.TheVariants.{NoRoom}
 use Rattle.book.specs.declared.node.Change.{Change}
 use Rattle.book.specs.declared.node.Change.TheVariants.{Piece, Tree, Cut, Crop}
-use Rattle.book.specs.declared.node.Edited.{Edited}
+use Rattle.book.specs.declared.node.Built.{Built}
 use Rattle.book.specs.declared.node.Node.{Node}
 use Rattle.book.specs.Records as records
 use Rattle.book.specs.Records.{Sound, Store, in_use, room}
@@ -31,7 +31,7 @@ use Rattle.book.specs.View.{shown, view_of, Steps, Fits, Redrafts}
 use Rattle.book.proofs.Stores.{length_slots}
 use Rattle.book.proofs.Insides.{changed_inside}
 use Rattle.book.proofs.Tested.{passes}
-use Rattle.book.proofs.Shown.{drafting, root_more, roots_stay}
+use Rattle.book.proofs.Shown.{drafting, orderly_with, root_more, roots_stay}
 
 -- the records
 module _ {s : Store} (c : Contents) (d : OpenDraft) (w : Consistent s (drafting c (Some d))) where
@@ -46,8 +46,8 @@ module _ {s : Store} (c : Contents) (d : OpenDraft) (w : Consistent s (drafting 
     pub allowed : Allowed s d.root x
     allowed = record { ready = w.ready; root = w.orderly.drafted.0; addable = addable x f }
 
-    pub redraft_done : {s' : Store} (q : Edited) → Has s s' (changed s d.root x) q →
-        Redrafts s (drafting c (Some d)) d s' (drafting c (Some (record { root = q.root; base = d.base }))) (changed s d.root x) (Ok q.made)
+    pub redraft_done : {s' : Store} (q : Built (Option ℕ)) → Has s s' (changed s d.root x) q →
+        Redrafts s (drafting c (Some d)) d s' (drafting c (Some (record { root = q.value; base = d.base }))) (changed s d.root x) (Ok q.made)
     redraft_done {s'} q has =
         let o = w.orderly in
         let wrote = has.wrote in
@@ -60,15 +60,7 @@ module _ {s : Store} (c : Contents) (d : OpenDraft) (w : Consistent s (drafting 
         record {
           keeps = passes (record {
             ready = wrote.ready;
-            orderly = record {
-              lens_fit = o.lens_fit;
-              few = o.few;
-              short = o.short;
-              roots_fit = o.roots_fit;
-              most_kept = o.most_kept;
-              drafted = (has.root, omega arith);
-              rooted = o.rooted;
-            };
+            orderly = orderly_with c o (has.root, omega arith) o.rooted;
             inside = subst (AllByRecursion (Inside (noted c))) (sym wrote.trees)
                 (All-append (Inside (noted c)) (records.trees (in_use s)) (changed s d.root x).new w.inside (changed_inside w d.root o.drafted.0 x f));
           });
@@ -78,7 +70,7 @@ module _ {s : Store} (c : Contents) (d : OpenDraft) (w : Consistent s (drafting 
             ap₂ (λ (ts : List trees.Tree) (vs : List (Option trees.Tree)). record {
               slots = ts;
               kept = vs;
-              draft = Some (record { tree = any_in s' q.root; base = d.base });
+              draft = Some (record { tree = any_in s' q.value; base = d.base });
               lengths = noted c;
               room = room s'.records;
             }) wrote.trees roots
@@ -140,9 +132,6 @@ module _ (b : model.Book) (e : Edit) where
 module _ {s : Store} (c : Contents) (d : OpenDraft) (w : Consistent s (drafting c (Some d))) (e : Edit) where
   abbrev b : model.Book
   b = view_of s (drafting c (Some d))
-
-  pub edit_refused : (row : ℕ) → first_row (edit_rows (lengths_of b) e) ≡ Some row → Steps s (drafting c (Some d)) s (drafting c (Some d)) (edit e) (refused row)
-  edit_refused row is = record { keeps = passes w; steps = row_refuses b e row is }
 
   module _ (rule : Made) (is : built b e ≡ rule) (none : first_row (edit_rows (lengths_of b) e) ≡ None) where
     count : made b e ≡ length rule.new

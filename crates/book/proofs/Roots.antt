@@ -11,10 +11,8 @@ use Rattle.tree.proofs.Measure.{join_size}
 use Rattle.tree.proofs.Spell.{split_sizes}
 use Rattle.tree.proofs.Splits.{splits}
 use Rattle.tree.proofs.Steps.{split_at_start, split_at_end, split_inside}
-use Rattle.book.specs.declared.node.Edited.{Edited}
-use Rattle.book.specs.declared.node.Halves.{Halves}
+use Rattle.book.specs.declared.node.Built.{Built}
 use Rattle.book.specs.declared.node.NoRoom.{NoRoom}
-use Rattle.book.specs.declared.node.Parts.{Parts}
 use Rattle.book.specs.Records.{no_node, Store, Ready, tree_in}
 use Rattle.book.specs.Building.{Wrote, Lacks}
 use Rattle.book.specs.Parting.{Inside, Parted}
@@ -46,8 +44,8 @@ split_any_size n (Some t) p b = ⊎_elim
     (λ (k : size t ≤ p). rw (split_at_end n t p h k) (omega arith)) (cases_lt p (size t)))
     (λ (h : p ≤ 0). let e : p ≡ 0 = omega arith in rw (split_at_start n t p e) (omega arith)) (cases_lt 0 p)
 
-pub halves_size : {s s' : Store} (t : Option ℕ) (p : ℕ) (q : Halves) → Ready s → Root s.used t → HasHalves s s' (split_any s.used (any_in s t) p) q →
-    size_any (any_in s' q.left) + size_any (any_in s' q.right) ≡ size_any (any_in s t)
+pub halves_size : {s s' : Store} (t : Option ℕ) (p : ℕ) (q : Built (Option ℕ × Option ℕ)) → Ready s → Root s.used t → HasHalves s s' (split_any s.used (any_in s t) p) q →
+    size_any (any_in s' q.value.0) + size_any (any_in s' q.value.1) ≡ size_any (any_in s t)
 halves_size {s} t p q d r h =
     let x = h.left in
     let y = h.right in rw (x, y) (split_any_size s.used (any_in s t) p (any_level d t r))
@@ -57,12 +55,12 @@ join_any_size n None r = omega arith
 join_any_size n (Some l) None = omega arith
 join_any_size n (Some l) (Some r) = join_size (join_writes n l r)
 
-pub joined_size : {s s' : Store} (l r : Option ℕ) (q : Edited) → Has s s' (join_any s.used (any_in s l) (any_in s r)) q →
-    size_any (any_in s' q.root) ≡ size_any (any_in s l) + size_any (any_in s r)
+pub joined_size : {s s' : Store} (l r : Option ℕ) (q : Built (Option ℕ)) → Has s s' (join_any s.used (any_in s l) (any_in s r)) q →
+    size_any (any_in s' q.value) ≡ size_any (any_in s l) + size_any (any_in s r)
 joined_size {s} l r q h = let x = h.tree in rw x (join_any_size s.used (any_in s l) (any_in s r))
 
 -- a split anywhere
-halved_as : {s s' : Store} {b c : rules.Halves} {r : Result Halves NoRoom} → b ≡ c → Halved s s' b r → Halved s s' c r
+halved_as : {s s' : Store} {b c : rules.Halves} {r : Result (Built (Option ℕ × Option ℕ)) NoRoom} → b ≡ c → Halved s s' b r → Halved s s' c r
 halved_as {s} {s'} {r = r} e g = subst (λ x. Halved s s' x r) e g
 
 module _ {s : Store} (t : Option ℕ) (i p : ℕ) (d : Ready s) (r : Root s.used t) (e : t ≡ Some i) (h : 0 < p) where
@@ -72,7 +70,7 @@ module _ {s : Store} (t : Option ℕ) (i p : ℕ) (d : Ready s) (r : Root s.used
   some : any_in s t ≡ Some (tree_in s i)
   some = rw e
 
-  pub end_halves : (get_or s.records i no_node).len ≤ p → Halved s s (split_any s.used (any_in s t) p) (Ok (record { left = Some i; right = None; made = 0 }))
+  pub end_halves : (get_or s.records i no_node).len ≤ p → Halved s s (split_any s.used (any_in s t) p) (Ok (record { value = (Some i, None); made = 0 }))
   end_halves l =
       let k = stands_at d i held in
       let f : split_any s.used (any_in s t) p ≡ record { new = []; left = Some (tree_in s i); right = None }
@@ -90,8 +88,8 @@ module _ {s : Store} (t : Option ℕ) (i p : ℕ) (d : Ready s) (r : Root s.used
     pub inside_fails : {s' : Store} {er : NoRoom} → Lacks s s' (length (split s.used (tree_in s i) p).new) → Halved s s' (split_any s.used (any_in s t) p) (Err er)
     inside_fails q = halved_as inside (record { case = q })
 
-    pub inside_halves : {s' : Store} (q : Parts) → Parted s s' (split s.used (tree_in s i) p) q →
-        Halved s s' (split_any s.used (any_in s t) p) (Ok (record { left = Some q.left; right = Some q.right; made = q.made }))
+    pub inside_halves : {s' : Store} (q : Built (ℕ × ℕ)) → Parted s s' (split s.used (tree_in s i) p) q →
+        Halved s s' (split_any s.used (any_in s t) p) (Ok (record { value = (Some q.value.0, Some q.value.1); made = q.made }))
     inside_halves q m = halved_as inside (record {
       case = record { wrote = m.wrote; left_root = m.left_slot; right_root = m.right_slot; left = ap Some m.left; right = ap Some m.right; made = m.made };
     })

@@ -1,8 +1,9 @@
 -- What a book shows, by its records and contents.
 use Rattle.std.proofs.Common.{◌≡◌, ℕ, ◌<◌, ◌≤◌, List, [], ◌∷◌, ◌++◌, map, length, get_or, take, drop, Some, None, Option, sym, refl, ap, ◌∙◌, subst, arith}
-use Rattle.std.specs.List.{AllByRecursion}
+use Rattle.std.specs.List.{AllByRecursion, slice_get}
 use Rattle.std.proofs.ByRecursion.{All-get_or}
-use Rattle.std.proofs.lemmas.List.{length-map, length-take-le, get_or-take, get_or-map, take_at, take-take, take-append-drop}
+use Rattle.std.proofs.lemmas.Option.{slice_get_within, get_or_from_slice_get}
+use Rattle.std.proofs.lemmas.List.{length-map, get_or-map, take_at, take-take, take-append-drop}
 use Rattle.shelf.specs.Texts.{limit}
 use Rattle.tree.specs.Tree.{Tree}
 use Rattle.tree.specs.Edits.{size_any}
@@ -12,7 +13,7 @@ use Rattle.book.specs.declared.contents.OpenDraft.{OpenDraft}
 use Rattle.book.specs.Records.{trees, tree_at, Store, in_use, Ready}
 use Rattle.book.specs.Building.{Wrote}
 use Rattle.book.specs.Changing.{Root, any_in}
-use Rattle.book.specs.Contents.{noted, versions, settled, Drafted, Consistent}
+use Rattle.book.specs.Contents.{versions, settled, Drafted, Orderly, Consistent}
 use Rattle.book.specs.View.{view_of}
 use Rattle.book.proofs.Grown.{trees_append, front_at, sound_front}
 use Rattle.book.proofs.Stores.{length_slots, length_in_use}
@@ -20,7 +21,11 @@ use Rattle.book.proofs.Roots.{any_stays}
 
 -- the same contents with another draft
 abbrev pub drafting : Contents → Option OpenDraft → Contents
-drafting c o = record { draft = o; kept = c.kept; roots = c.roots; count = c.count; lens = c.lens }
+drafting c o = record { draft = o; roots = c.roots; lens = c.lens }
+
+-- contents stay orderly with another draft
+pub orderly_with : {u u' : ℕ} (c : Contents) {o o' : Option OpenDraft} → Orderly u (drafting c o) → Drafted u' o' → AllByRecursion (Root (settled u' o')) (versions c) → Orderly u' (drafting c o')
+orderly_with c w drafted rooted = record { few = w.few; short = w.short; most_kept = w.most_kept; drafted = drafted; rooted = rooted }
 
 pub root_more : {u w : ℕ} (o : Option ℕ) → u ≤ w → Root u o → Root w o
 root_more None l h = tt
@@ -67,50 +72,37 @@ module _ {s : Store} (d : Ready s) (n : ℕ) (le : n ≤ s.used) where
       let a = any_fewer v h.0 in
       let b = roots_fewer vs h.1 in cc
 
+-- the length of a text
+pub text_short : (lens : List ℕ) → AllByRecursion (λ n. n ≤ limit) lens → (k m : ℕ) → slice_get lens k ≡ Some m → m ≤ limit
+text_short lens h k m is = subst (λ n. n ≤ limit) (get_or_from_slice_get lens k m 0 is) (All-get_or (λ n. n ≤ limit) lens k 0 (slice_get_within lens k m is) h)
+
 module _ {s : Store} {c : Contents} (w : Consistent s c) where
-  pub length_versions : length (versions c) ≡ c.kept
-  length_versions =
-      let a = w.orderly.roots_fit in
-      let b = w.orderly.most_kept in length-take-le c.kept c.roots (omega arith)
+  pub length_kept : length (view_of s c).kept ≡ length (versions c)
+  length_kept = length-map (versions c) (any_in s)
 
-  pub length_kept : length (view_of s c).kept ≡ c.kept
-  length_kept = length-map (versions c) (any_in s) ∙ length_versions
-
-  pub length_lengths : length (lengths_of (view_of s c)).versions ≡ c.kept
+  pub length_lengths : length (lengths_of (view_of s c)).versions ≡ length (versions c)
   length_lengths = length-map (view_of s c).kept size_any ∙ length_kept
 
-  pub length_noted : length (noted c) ≡ c.count
-  length_noted = length-take-le c.count c.lens w.orderly.lens_fit
-
-  -- the length of a text
-  module _ (k : ℕ) (h : k < c.count) where
-    pub noted_at : get_or (noted c) k 0 ≡ get_or c.lens k 0
-    noted_at = get_or-take c.count c.lens k 0 h
-
-    pub text_short : get_or c.lens k 0 ≤ limit
-    text_short =
-        let n = length_noted in
-        omega (arith, noted_at, All-get_or (λ n. n ≤ limit) (noted c) k 0 (omega arith) w.orderly.short)
-
   -- a kept version
-  module _ (v : ℕ) (h : v < c.kept) where
-    root_at : get_or (versions c) v None ≡ get_or c.roots v None
-    root_at = get_or-take c.kept c.roots v None h
+  module _ (v : ℕ) (root : Option ℕ) (is : slice_get (versions c) v ≡ Some root) where
+    pub version_kept : v < length (versions c)
+    version_kept = slice_get_within (versions c) v root is
 
-    pub version_is : version (view_of s c) v ≡ any_in s (get_or c.roots v None)
-    version_is =
-        let n = length_versions in
-        get_or-map (any_in s) (versions c) v None None (omega arith) ∙ ap (any_in s) root_at
+    root_is : get_or (versions c) v None ≡ root
+    root_is = get_or_from_slice_get (versions c) v root None is
 
-    pub version_size : get_or (lengths_of (view_of s c)).versions v 0 ≡ size_any (any_in s (get_or c.roots v None))
+    pub version_is : version (view_of s c) v ≡ any_in s root
+    version_is = get_or-map (any_in s) (versions c) v None None version_kept ∙ ap (any_in s) root_is
+
+    pub version_size : get_or (lengths_of (view_of s c)).versions v 0 ≡ size_any (any_in s root)
     version_size =
         let n = length_kept in
+        let h = version_kept in
         get_or-map size_any (view_of s c).kept v None 0 (omega arith) ∙ ap size_any version_is
 
-    pub version_settled : Root (settled s.used c.draft) (get_or c.roots v None)
+    pub version_settled : Root (settled s.used c.draft) root
     version_settled =
-        let n = length_versions in
-        subst (Root (settled s.used c.draft)) root_at (All-get_or (Root (settled s.used c.draft)) (versions c) v None (omega arith) w.orderly.rooted)
+        subst (Root (settled s.used c.draft)) root_is (All-get_or (Root (settled s.used c.draft)) (versions c) v None version_kept w.orderly.rooted)
 
-    pub version_root : Root s.used (get_or c.roots v None)
-    version_root = root_more (get_or c.roots v None) (settled_le c.draft w.orderly.drafted) version_settled
+    pub version_root : Root s.used root
+    version_root = root_more root (settled_le c.draft w.orderly.drafted) version_settled

@@ -34,7 +34,7 @@ reads_at {s} d i h =
     (reads (in_use s) i lt (subst (λ (x : Node). Below i x.shape) (sym e) (stands_at d i h).below))
 
 -- one more record
-wrote_one : {s s' : Store} (x : Node) {b : Built} (t : Tree) → Ready s → Added s s' x b →
+wrote_one : {s s' : Store} (x : Node) {b : Built ℕ} (t : Tree) → Ready s → Added s s' x b →
     shaped (trees (in_use s)) x.len x.shape ≡ t → Stands s.used x t → Made s s' (one t) b
 unfolding tree_at
 wrote_one {s} {s'} x {b} t d a e k =
@@ -62,13 +62,13 @@ wrote_one {s} {s'} x {b} t d a e k =
 pub no_more : {s s' : Store} → (s'.records ≡ s.records) × (room s.records ≤ s.used) → Lacks s s' 1
 no_more {s} e = let f = e.1 in record { len = ap length e.0; kept = ap (take s.used) e.0; full = omega arith }
 
-pub leaf_made : {s s' : Store} (k i m : ℕ) {b : Built} → Ready s → 0 < m → i + m ≤ limit →
+pub leaf_made : {s s' : Store} (k i m : ℕ) {b : Built ℕ} → Ready s → 0 < m → i + m ≤ limit →
     Added s s' (record { len = m; height = 0; pieces = 1; shape = Piece k i }) b → Made s s' (one (piece s.used k i m)) b
 unfolding shaped
 leaf_made {s} k i m d some ends a = wrote_one _ (piece s.used k i m) d a (ap (λ j. piece j k i m) (length_slots d))
     (record { below = tt; len = refl; height = refl; pieces = refl; balanced = tt; filled = (some, ends); short = omega arith })
 
-node_made : {s s' : Store} (l r m : ℕ) {b : Built} → Level s l r → m ≡ max (get_or s.records l no_node).height (get_or s.records r no_node).height →
+node_made : {s s' : Store} (l r m : ℕ) {b : Built ℕ} → Level s l r → m ≡ max (get_or s.records l no_node).height (get_or s.records r no_node).height →
     (len pieces : ℕ) → len ≡ (get_or s.records l no_node).len + (get_or s.records r no_node).len →
     pieces ≡ (get_or s.records l no_node).pieces + (get_or s.records r no_node).pieces →
     Added s s' (record { len = len; height = m + 1; pieces = pieces; shape = Fork l r }) b → Made s s' (one (node s.used (tree_in s l) (tree_in s r))) b
@@ -95,7 +95,7 @@ level_exchange v =
     record { pair = record { ready = p.ready; left = p.right; right = p.left; short = omega arith }; near = (v.near.1, v.near.0) }
 
 -- a node, seen from either side
-fork_at : (side : Side) {s s' : Store} (x y m : ℕ) {b : Built} → Level s x y → m ≡ max (get_or s.records x no_node).height (get_or s.records y no_node).height →
+fork_at : (side : Side) {s s' : Store} (x y m : ℕ) {b : Built ℕ} → Level s x y → m ≡ max (get_or s.records x no_node).height (get_or s.records y no_node).height →
     Added s s' (record {
       len = (get_or s.records x no_node).len + (get_or s.records y no_node).len;
       height = m + 1;
@@ -105,7 +105,7 @@ fork_at : (side : Side) {s s' : Store} (x y m : ℕ) {b : Built} → Level s x y
 fork_at left x y m v e a = node_made x y m v e _ _ refl refl a
 fork_at right x y m v e a = node_made y x m (level_exchange v) (omega arith) _ _ (omega arith) (omega arith) a
 
-pub fork_made : (side : Side) {s s' : Store} (x y m : ℕ) (o : ℕ × ℕ) {b : Built} → Level s x y →
+pub fork_made : (side : Side) {s s' : Store} (x y m : ℕ) (o : ℕ × ℕ) {b : Built ℕ} → Level s x y →
     m ≡ max (get_or s.records x no_node).height (get_or s.records y no_node).height → o ≡ ordered side x y →
     Added s s' (record {
       len = (get_or s.records x no_node).len + (get_or s.records y no_node).len;

@@ -57,7 +57,7 @@ decides_stands i x t =
     (Decides-and (eqb x.pieces (pieces t)) _ (Decides-eqb x.pieces (pieces t))
     (Decides-and (balanced t) _ (decides_balanced t) (Decides-and (filled t) (leb (size t) limit) (decides_filled t) (decides_leb (size t) limit)))))))
 
-decides_sound : (xs : List Node) → Decides (all_stand xs (length xs)) (Sound xs)
+pub decides_sound : (xs : List Node) → Decides (all_stand xs (length xs)) (Sound xs)
 unfolding Sound all_stand
 decides_sound xs =
     Decides-below_and (λ i. stands i (get_or xs i no_node) (tree_at xs i)) (λ i. Stands i (get_or xs i no_node) (tree_at xs i)) (all_stand xs)
@@ -75,25 +75,21 @@ decides_orderly : (u : ℕ) (c : Contents) → Decides (orderly u c) (Orderly u 
 decides_orderly u c =
     Decides-like (orderly u c)
     (λ p. record {
-      lens_fit = p.0;
-      few = p.1.0;
-      short = p.1.1.0;
-      roots_fit = p.1.1.1.0;
-      most_kept = p.1.1.1.1.0;
-      drafted = p.1.1.1.1.1.0;
-      rooted = p.1.1.1.1.1.1;
+      few = p.0;
+      short = p.1.0;
+      most_kept = p.1.1.0;
+      drafted = p.1.1.1.0;
+      rooted = p.1.1.1.1;
     })
-    (λ o. (o.lens_fit, (o.few, (o.short, (o.roots_fit, (o.most_kept, (o.drafted, o.rooted)))))))
-    (Decides-and (leb c.count (length c.lens)) _ (decides_leb c.count (length c.lens))
-    (Decides-and (leb c.count most_texts) _ (decides_leb c.count most_texts)
+    (λ o. (o.few, (o.short, (o.most_kept, (o.drafted, o.rooted)))))
+    (Decides-and (leb (length (noted c)) most_texts) _ (decides_leb (length (noted c)) most_texts)
     (Decides-and (all_short (noted c)) _ (Decides-by_and (λ n. leb n limit) (λ n. n ≤ limit) all_short (λ n. decides_leb n limit) refl (λ _ _. refl) (noted c))
-    (Decides-and (leb most_versions (length c.roots)) _ (decides_leb most_versions (length c.roots))
-    (Decides-and (leb c.kept most_versions) _ (decides_leb c.kept most_versions)
+    (Decides-and (leb (length (versions c)) most_versions) _ (decides_leb (length (versions c)) most_versions)
     (Decides-and (drafted u c.draft) _ (decides_drafted u c.draft)
     (Decides-by_and (rooted (settled u c.draft)) (Root (settled u c.draft)) (all_rooted (settled u c.draft)) (decides_rooted (settled u c.draft))
-    refl (λ _ _. refl) (versions c))))))))
+    refl (λ _ _. refl) (versions c))))))
 
-decides_inside : (lens : List ℕ) (t : Tree) → Decides (inside lens t) (Inside lens t)
+pub decides_inside : (lens : List ℕ) (t : Tree) → Decides (inside lens t) (Inside lens t)
 decides_inside lens (piece s k i m) =
     Decides-like (inside lens (piece s k i m)) (λ p. (p.0, p.1.0, p.1.1)) (λ p. (p.0, (p.1, p.2)))
     (Decides-and (ltb 0 m) _ (Decides-ltb 0 m)

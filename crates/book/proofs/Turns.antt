@@ -9,11 +9,12 @@ use Rattle.tree.proofs.Steps.{lean_plain, lean_once, lean_twice}
 use Rattle.book.specs.declared.node.Built.{Built}
 use Rattle.book.specs.declared.node.NoRoom.{NoRoom}
 use Rattle.book.specs.Sides.{sides_of}
+use Rattle.book.specs.Built.{in_turn}
 use Rattle.book.specs.Records.{no_node, Store, tree_in}
 use Rattle.book.specs.Building.{one, Level, Leaning, Four, four, Made, Lacks, Builds}
 use Rattle.book.proofs.Stores.{stands_at, level_exchange, stays, more, more_used, lacks_later}
 use Rattle.book.proofs.Forks.{Forks, forked, sides_held}
-use Rattle.book.proofs.Builds.{InTurn, made_then, builds_as, done, fails}
+use Rattle.book.proofs.Builds.{made_then, builds_as, done, fails}
 
 -- one node, and a node around it
 pub one_plain : (side : Side) (n : ℕ) (a t : Tree) → one (on side n a t) ≡ write n (plain side a t)
@@ -25,7 +26,7 @@ once_is left n a c d = refl
 once_is right n a c d = refl
 
 -- ((W X)(Y Z))
-module _ {s : Store} (w x y z : ℕ) (p : Four s w x y z) {s₁ : Store} (b₁ : Built) (m₁ : Made s s₁ (one (node s.used (tree_in s w) (tree_in s x))) b₁) where
+module _ {s : Store} (w x y z : ℕ) (p : Four s w x y z) {s₁ : Store} (b₁ : Built ℕ) (m₁ : Made s s₁ (one (node s.used (tree_in s w) (tree_in s x))) b₁) where
   was : (i : ℕ) → i < s.used → tree_in s₁ i ≡ tree_in s i
   was = stays p.first.pair.ready m₁.wrote
 
@@ -42,20 +43,20 @@ module _ {s : Store} (w x y z : ℕ) (p : Four s w x y z) {s₁ : Store} (b₁ :
   pub four_fails₂ : {s₂ : Store} {er : NoRoom} → Lacks s₁ s₂ 1 → Builds s s₂ (write s.used (four s w x y z)) (Err er)
   four_fails₂ l = fails refl (omega arith) (lacks_later m₁.wrote l)
 
-  module _ {s₂ : Store} (b₂ : Built) (m₂ : Made s₁ s₂ (one (node s₁.used (tree_in s₁ y) (tree_in s₁ z))) b₂) where
+  module _ {s₂ : Store} (b₂ : Built ℕ) (m₂ : Made s₁ s₂ (one (node s₁.used (tree_in s₁ y) (tree_in s₁ z))) b₂) where
     second_is : one (node s₁.used (tree_in s₁ y) (tree_in s₁ z)) ≡ one (node (s.used + 1) (tree_in s y) (tree_in s z))
     second_is =
         let u = m₁.wrote.used in
         let ey = was y p.second.pair.left in
         let ez = was z p.second.pair.right in rw (ey, ez, u)
 
-    first_tree : tree_in s₂ b₁.slot ≡ node s.used (tree_in s w) (tree_in s x)
-    first_tree = stays m₁.wrote.ready m₂.wrote b₁.slot m₁.slot ∙ m₁.tree
+    first_tree : tree_in s₂ b₁.value ≡ node s.used (tree_in s w) (tree_in s x)
+    first_tree = stays m₁.wrote.ready m₂.wrote b₁.value m₁.slot ∙ m₁.tree
 
-    second_tree : tree_in s₂ b₂.slot ≡ node (s.used + 1) (tree_in s y) (tree_in s z)
+    second_tree : tree_in s₂ b₂.value ≡ node (s.used + 1) (tree_in s y) (tree_in s z)
     second_tree = m₂.tree ∙ ap (λ b. b.tree) second_is
 
-    pub four_top : Level s₂ b₁.slot b₂.slot
+    pub four_top : Level s₂ b₁.value b₂.value
     four_top =
         let e = first_tree in
         let f = second_tree in
@@ -68,16 +69,16 @@ module _ {s : Store} (w x y z : ℕ) (p : Four s w x y z) {s₁ : Store} (b₁ :
     pub four_fails₃ : {s₃ : Store} {er : NoRoom} → Lacks s₂ s₃ 1 → Builds s s₃ (write s.used (four s w x y z)) (Err er)
     four_fails₃ l = fails refl (omega arith) (lacks_later (more m₁.wrote m₂.wrote) l)
 
-    pub four_done : {s₃ : Store} (b₃ b₂₃ b : Built) → Made s₂ s₃ (one (node s₂.used (tree_in s₂ b₁.slot) (tree_in s₂ b₂.slot))) b₃ →
-        InTurn b₂ b₃ b₂₃ → InTurn b₁ b₂₃ b → Builds s s₃ (write s.used (four s w x y z)) (Ok b)
-    four_done b₃ b₂₃ b m₃ i j =
+    pub four_done : {s₃ : Store} (b₃ : Built ℕ) → Made s₂ s₃ (one (node s₂.used (tree_in s₂ b₁.value) (tree_in s₂ b₂.value))) b₃ →
+        Builds s s₃ (write s.used (four s w x y z)) (Ok (in_turn b₁ (in_turn b₂ b₃)))
+    four_done b₃ m₃ =
         let e = first_tree in
         let f = second_tree in
         let ey = was y p.second.pair.left in
         let ez = was z p.second.pair.right in
         let u : s₁.used ≡ s.used + 1 = m₁.wrote.used in
         let v : s₂.used ≡ s.used + 1 + 1 = (let k = m₂.wrote.used in omega arith) in
-        done (rw (e, f, ey, ez, v, u)) (made_then m₁ (made_then m₂ m₃ i) j)
+        done (rw (e, f, ey, ez, v, u)) (made_then m₁ (made_then m₂ m₃))
 
 -- A stays on the side, and T takes the other
 module _ {s : Store} (side : Side) (a t : ℕ) (n : Leaning s a t) where
@@ -91,7 +92,7 @@ module _ {s : Store} (side : Side) (a t : ℕ) (n : Leaning s a t) where
     pub plain_level : Level s a t
     plain_level = record { pair = n.pair; near = (n.low, level) }
 
-    pub plain_done : {s' : Store} {r : Result Built NoRoom} → Builds s s' (one (on side s.used (tree_in s a) (tree_in s t))) r →
+    pub plain_done : {s' : Store} {r : Result (Built ℕ) NoRoom} → Builds s s' (one (on side s.used (tree_in s a) (tree_in s t))) r →
         Builds s s' (write s.used (lean side (tree_in s a) (tree_in s t))) r
     plain_done g = builds_as (one_plain side s.used (tree_in s a) (tree_in s t) ∙ ap (write s.used) (sym (lean_plain side (tree_in s a) (tree_in s t) level))) g
 
@@ -127,11 +128,11 @@ module _ {s : Store} (side : Side) (a t : ℕ) (n : Leaning s a t) where
           let tree = ft.tree in
           rw tree (ap (write s.used) (sym (lean_once side t (tree_in s a) (tree_in s o.0) (tree_in s o.1) high lower)))
 
-      module _ {s₁ : Store} (b₁ : Built) (m₁ : Made s s₁ (one (on side s.used (tree_in s a) (tree_in s o.0))) b₁) where
+      module _ {s₁ : Store} (b₁ : Built ℕ) (m₁ : Made s s₁ (one (on side s.used (tree_in s a) (tree_in s o.0))) b₁) where
         same_d : tree_in s₁ o.1 ≡ tree_in s o.1
         same_d = stays n.pair.ready m₁.wrote o.1 held.1
 
-        pub once_outer : Level s₁ b₁.slot o.1
+        pub once_outer : Level s₁ b₁.value o.1
         once_outer =
             let f = ft in
             let q = tall in
@@ -151,13 +152,13 @@ module _ {s : Store} (side : Side) (a t : ℕ) (n : Leaning s a t) where
         pub once_fails : {s₂ : Store} {er : NoRoom} → Lacks s₁ s₂ 1 → Builds s s₂ (write s.used (lean side (tree_in s a) (tree_in s t))) (Err er)
         once_fails q = fails (once_is side s.used _ _ _ ∙ turned_once) (omega arith) (lacks_later m₁.wrote q)
 
-        pub once_done : {s₂ : Store} (b₂ b : Built) → Made s₁ s₂ (one (on side s₁.used (tree_in s₁ b₁.slot) (tree_in s₁ o.1))) b₂ → InTurn b₁ b₂ b →
-            Builds s s₂ (write s.used (lean side (tree_in s a) (tree_in s t))) (Ok b)
-        once_done b₂ b m₂ i =
+        pub once_done : {s₂ : Store} (b₂ : Built ℕ) → Made s₁ s₂ (one (on side s₁.used (tree_in s₁ b₁.value) (tree_in s₁ o.1))) b₂ →
+            Builds s s₂ (write s.used (lean side (tree_in s a) (tree_in s t))) (Ok (in_turn b₁ b₂))
+        once_done b₂ m₂ =
             let x = m₁.tree in
             let y = same_d in
             let u : s₁.used ≡ s.used + 1 = m₁.wrote.used in
-            done (rw (x, y, u) (once_is side s.used _ _ _ ∙ turned_once)) (made_then m₁ m₂ i)
+            done (rw (x, y, u) (once_is side s.used _ _ _ ∙ turned_once)) (made_then m₁ m₂)
 
     -- C is (E F) and higher than D
     module _ (i : ℕ × ℕ) (e' : i ≡ sides_of side o.0 (get_or s.records o.0 no_node).shape)
@@ -201,12 +202,12 @@ module _ {s : Store} (side : Side) (a t : ℕ) (n : Leaning s a t) where
           let lo = higher in
           rw (tree, c_tree) (ap (write s.used) (sym (lean_twice side t o.0 (tree_in s a) (tree_in s i.0) (tree_in s i.1) (tree_in s o.1) hi (rw c_tree at lo))))
 
-      pub twice_left : side ≡ left → {s' : Store} {r : Result Built NoRoom} →
+      pub twice_left : side ≡ left → {s' : Store} {r : Result (Built ℕ) NoRoom} →
           Builds s s' (write s.used (four s a i.0 i.1 o.1)) r →
           Builds s s' (write s.used (lean side (tree_in s a) (tree_in s t))) r
       twice_left is g = builds_as (ap (λ x. write s.used (turn_twice x (tree_in s a) (tree_in s i.0) (tree_in s i.1) (tree_in s o.1))) (sym is) ∙ turned_twice) g
 
-      pub twice_right : side ≡ right → {s' : Store} {r : Result Built NoRoom} →
+      pub twice_right : side ≡ right → {s' : Store} {r : Result (Built ℕ) NoRoom} →
           Builds s s' (write s.used (four s o.1 i.1 i.0 a)) r →
           Builds s s' (write s.used (lean side (tree_in s a) (tree_in s t))) r
       twice_right is g = builds_as (ap (λ x. write s.used (turn_twice x (tree_in s a) (tree_in s i.0) (tree_in s i.1) (tree_in s o.1))) (sym is) ∙ turned_twice) g

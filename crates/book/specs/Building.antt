@@ -55,8 +55,8 @@ Higher l r None = (l ≤ r + 1) × (r ≤ l + 1)
 Higher l r (Some side) = pick (tree_side side) r l + 1 < pick (tree_side side) l r
 
 -- the record was written at the next slot
-pub record Added (s s' : Store) (x : Node) (b : Built) : Type 0 where
-  pub slot : b.slot ≡ s.used
+pub record Added (s s' : Store) (x : Node) (b : Built ℕ) : Type 0 where
+  pub slot : b.value ≡ s.used
   pub made : b.made ≡ 1
   pub used : s'.used ≡ s.used + 1
   pub records : s'.records ≡ slice_set s.records s.used x
@@ -71,10 +71,10 @@ pub record Wrote (s s' : Store) (new : List Tree) : Type 0 where
   pub trees : trees (in_use s') ≡ trees (in_use s) ++ new
 
 -- what the rules build was built
-pub record Made (s s' : Store) (rule : rules.Built) (b : Built) : Type 0 where
+pub record Made (s s' : Store) (rule : rules.Built) (b : Built ℕ) : Type 0 where
   pub wrote : Wrote s s' rule.new
-  pub slot : b.slot < s'.used
-  pub tree : tree_in s' b.slot ≡ rule.tree
+  pub slot : b.value < s'.used
+  pub tree : tree_in s' b.value ≡ rule.tree
   pub made : b.made ≡ length rule.new
 
 -- the rules take `made` slots, and fewer are free; the records in use are as they were
@@ -84,5 +84,5 @@ pub record Lacks (s s' : Store) (made : ℕ) : Type 0 where
   pub full : room s.records < s.used + made
 
 -- what the rules build, or no room for it
-pub record Builds (s s' : Store) (rule : rules.Built) (r : Result Built NoRoom) : Type 0 where
+pub record Builds (s s' : Store) (rule : rules.Built) (r : Result (Built ℕ) NoRoom) : Type 0 where
   pub case : MatchResult r (λ b. Made s s' rule b) (λ _. Lacks s s' (length rule.new))

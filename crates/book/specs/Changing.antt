@@ -4,10 +4,9 @@ use Rattle.shelf.specs.Texts.{limit}
 use Rattle.tree.specs.Tree as trees
 use Rattle.tree.specs.Edits as rules
 use Rattle.tree.specs.Edits.{size_any, put_piece, put_any, cut, crop}
+use Rattle.book.specs.declared.node.Built.{Built}
 use Rattle.book.specs.declared.node.Change.{Change}
 use Rattle.book.specs.declared.node.Change.TheVariants.{Piece, Tree, Cut, Crop}
-use Rattle.book.specs.declared.node.Edited.{Edited}
-use Rattle.book.specs.declared.node.Halves.{Halves}
 use Rattle.book.specs.declared.node.Node.{Node}
 use Rattle.book.specs.declared.node.NoRoom.{NoRoom}
 use Rattle.book.specs.Records.{tree_at, Store, in_use, Ready}
@@ -34,29 +33,29 @@ pub record Two (s : Store) (l r : Option ℕ) : Type 0 where
   pub short : size_any (any_in s l) + size_any (any_in s r) ≤ limit
 
 -- what the rules make was made
-pub record Has (s s' : Store) (rule : rules.Made) (q : Edited) : Type 0 where
+pub record Has (s s' : Store) (rule : rules.Made) (q : Built (Option ℕ)) : Type 0 where
   pub wrote : Wrote s s' rule.new
-  pub root : Root s'.used q.root
-  pub tree : any_in s' q.root ≡ rule.tree
+  pub root : Root s'.used q.value
+  pub tree : any_in s' q.value ≡ rule.tree
   pub made : q.made ≡ length rule.new
 
-pub record HasHalves (s s' : Store) (rule : rules.Halves) (q : Halves) : Type 0 where
+pub record HasHalves (s s' : Store) (rule : rules.Halves) (q : Built (Option ℕ × Option ℕ)) : Type 0 where
   pub wrote : Wrote s s' rule.new
-  pub left_root : Root s'.used q.left
-  pub right_root : Root s'.used q.right
-  pub left : any_in s' q.left ≡ rule.left
-  pub right : any_in s' q.right ≡ rule.right
+  pub left_root : Root s'.used q.value.0
+  pub right_root : Root s'.used q.value.1
+  pub left : any_in s' q.value.0 ≡ rule.left
+  pub right : any_in s' q.value.1 ≡ rule.right
   pub made : q.made ≡ length rule.new
 
 -- what the rules make, or no room for it
-pub record Gets (s s' : Store) (rule : rules.Made) (r : Result Edited NoRoom) : Type 0 where
+pub record Gets (s s' : Store) (rule : rules.Made) (r : Result (Built (Option ℕ)) NoRoom) : Type 0 where
   pub case : MatchResult r (λ q. Has s s' rule q) (λ _. Lacks s s' (length rule.new))
 
-pub record Halved (s s' : Store) (rule : rules.Halves) (r : Result Halves NoRoom) : Type 0 where
+pub record Halved (s s' : Store) (rule : rules.Halves) (r : Result (Built (Option ℕ × Option ℕ)) NoRoom) : Type 0 where
   pub case : MatchResult r (λ q. HasHalves s s' rule q) (λ _. Lacks s s' (length rule.new))
 
 -- the same, where no slot stays taken if there is no room
-pub record Changes (s s' : Store) (rule : rules.Made) (r : Result Edited NoRoom) : Type 0 where
+pub record Changes (s s' : Store) (rule : rules.Made) (r : Result (Built (Option ℕ)) NoRoom) : Type 0 where
   pub case : MatchResult r (λ q. Has s s' rule q) (λ _. Lacks s s' (length rule.new) × (s'.used ≡ s.used))
 
 -- what the rules make of a change of the tree at a root

@@ -1,21 +1,26 @@
 -- What a book holds beside its records, and when the two are consistent.
-use Rattle.std.specs.Prelude.{ℕ, ◌+◌, ◌<◌, ◌≤◌, List, length, take, Some, None, Option, slice_index}
+use Rattle.std.specs.Prelude.{◌≡◌, ℕ, ◌+◌, ◌<◌, ◌≤◌, List, length, Some, None, Option, Result, MatchResult, slice_get, slice_index}
 use Rattle.std.specs.List.{AllByRecursion}
 use Rattle.shelf.specs.Texts.{limit, most_texts}
 use Rattle.tree.specs.Tree.{Tree, piece, node}
 use Rattle.model.specs.Rows.{most_versions}
 use Rattle.book.specs.declared.contents.Contents.{Contents}
 use Rattle.book.specs.declared.contents.OpenDraft.{OpenDraft}
+use Rattle.book.specs.declared.fault.BookFault.{BookFault}
 use Rattle.book.specs.Records.{trees, Store, in_use, Ready}
 use Rattle.book.specs.Changing.{Root}
 
 -- the noted lengths of the texts
 abbrev pub noted : Contents → List ℕ
-noted c = take c.count c.lens
+noted c = c.lens.items
 
 -- the roots of the kept versions
 abbrev pub versions : Contents → List (Option ℕ)
-versions c = take c.kept c.roots
+versions c = c.roots.items
+
+-- the item at a place of a list, or the fault where there is none
+abbrev pub ItemOr : {A : Type 0} → List A → (k : ℕ) → (missing : BookFault) → Result A BookFault → Type 0
+ItemOr xs k missing r = MatchResult r (λ x. slice_get xs k ≡ Some x) (λ fault. (fault ≡ missing) × (length xs ≤ k))
 
 -- of `used` slots, those that no draft made
 abbrev pub settled : (used : ℕ) → Option OpenDraft → ℕ
@@ -27,11 +32,9 @@ Drafted used None = Unit {0}
 Drafted used (Some d) = Root used d.root × (d.base ≤ used)
 
 pub record Orderly (used : ℕ) (c : Contents) : Type 0 where
-  pub lens_fit : c.count ≤ length c.lens
-  pub few : c.count ≤ most_texts
+  pub few : length (noted c) ≤ most_texts
   pub short : AllByRecursion (λ n. n ≤ limit) (noted c)
-  pub roots_fit : most_versions ≤ length c.roots
-  pub most_kept : c.kept ≤ most_versions
+  pub most_kept : length (versions c) ≤ most_versions
   pub drafted : Drafted used c.draft
   pub rooted : AllByRecursion (Root (settled used c.draft)) (versions c)
 

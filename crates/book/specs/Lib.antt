@@ -1,4 +1,5 @@
 pub mod Sides
+pub mod Built
 pub mod Records
 pub mod Building
 pub mod Parting
@@ -7,7 +8,9 @@ pub mod Faults
 pub mod Contents
 pub mod Tests
 pub mod View
+pub mod Judging
 pub mod Whole
 pub mod Opening
 pub mod Access
+pub mod Reader
 pub mod Receipts

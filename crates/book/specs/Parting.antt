@@ -2,8 +2,8 @@
 use Rattle.std.specs.Prelude.{◌≡◌, ℕ, ◌<◌, length, Result, MatchResult}
 use Rattle.tree.specs.Tree.{size}
 use Rattle.tree.specs.Rules as rules
+use Rattle.book.specs.declared.node.Built.{Built}
 use Rattle.book.specs.declared.node.NoRoom.{NoRoom}
-use Rattle.book.specs.declared.node.Parts.{Parts}
 use Rattle.book.specs.Records.{Store, Ready, tree_in}
 use Rattle.book.specs.Building.{Wrote, Lacks}
 
@@ -15,14 +15,14 @@ pub record Inside (s : Store) (t place : ℕ) : Type 0 where
   pub below : place < size (tree_in s t)
 
 -- the parts that the rules make were made
-pub record Parted (s s' : Store) (rule : rules.Parts) (q : Parts) : Type 0 where
+pub record Parted (s s' : Store) (rule : rules.Parts) (q : Built (ℕ × ℕ)) : Type 0 where
   pub wrote : Wrote s s' rule.new
-  pub left_slot : q.left < s'.used
-  pub right_slot : q.right < s'.used
-  pub left : tree_in s' q.left ≡ rule.left
-  pub right : tree_in s' q.right ≡ rule.right
+  pub left_slot : q.value.0 < s'.used
+  pub right_slot : q.value.1 < s'.used
+  pub left : tree_in s' q.value.0 ≡ rule.left
+  pub right : tree_in s' q.value.1 ≡ rule.right
   pub made : q.made ≡ length rule.new
 
 -- the parts that the rules make, or no room for them
-pub record Splits (s s' : Store) (rule : rules.Parts) (r : Result Parts NoRoom) : Type 0 where
+pub record Splits (s s' : Store) (rule : rules.Parts) (r : Result (Built (ℕ × ℕ)) NoRoom) : Type 0 where
   pub case : MatchResult r (λ q. Parted s s' rule q) (λ _. Lacks s s' (length rule.new))

@@ -50,10 +50,9 @@ all_short (n ∷ ns) = nat_le n limit && all_short ns
 
 abbrev pub orderly : ℕ → Contents → Bool
 orderly used c =
-    nat_le c.count (length c.lens)
-    && (nat_le c.count most_texts
+    nat_le (length (noted c)) most_texts
     && (all_short (noted c)
-    && (nat_le most_versions (length c.roots) && (nat_le c.kept most_versions && (drafted used c.draft && all_rooted (settled used c.draft) (versions c))))))
+    && (nat_le (length (versions c)) most_versions && (drafted used c.draft && all_rooted (settled used c.draft) (versions c))))
 
 abbrev pub inside : List ℕ → Tree → Bool
 inside lens (piece s k i m) = nat_lt 0 m && (nat_lt k (length lens) && nat_le (i + m) (slice_index lens k))

@@ -8,9 +8,11 @@ use crate::node::{Node, Places};
 pub mod access;
 pub mod drafts;
 pub mod edits;
+mod judge;
 pub mod opening;
 
-// A book on a lent list of node records, which it alone writes.
+// A book on a lent list of node records, which it alone writes. Trees are slots in it and the number in use stands beside it,
+// since no call allocates.
 #[derive(Drop)]
 pub struct Book<'a> {
     nodes: &'a mut [Node],

@@ -1,3 +1,8 @@
+ghost use Rattle.book.specs.declared.fault.BookFault.TheVariants.{NotKept, NoText};
+ghost use Rattle.book.specs.Contents.{noted, versions, ItemOr};
+
+use crate::fault::BookFault;
+use arrayvec::ArrayVec;
 use shelf::MOST_TEXTS;
 
 // The greatest number of kept versions, version 0 counted.
@@ -11,11 +16,25 @@ pub struct OpenDraft {
 }
 
 // What a book holds beside its records: the open draft, the roots of the kept versions, and the noted lengths of the texts.
-#[derive(Clone, Copy)]
+#[derive(Drop)]
 pub struct Contents {
     pub draft: Option<OpenDraft>,
-    pub kept: usize,
-    pub roots: [Option<u16>; MOST_VERSIONS],
-    pub count: usize,
-    pub lens: [usize; MOST_TEXTS],
+    pub roots: ArrayVec<Option<u16>, MOST_VERSIONS>,
+    pub lens: ArrayVec<usize, MOST_TEXTS>,
+}
+
+impl Contents {
+    // The root of a kept version, none if the version is empty.
+    pub fn root(&self, version: usize) -> Result<Option<u16>, BookFault>
+        ensures { ItemOr (versions self.now) version NotKept result }
+    {
+        self.roots.get(version).copied().ok_or(BookFault::NotKept)
+    }
+
+    // The noted length of a text.
+    pub fn text_len(&self, text: usize) -> Result<usize, BookFault>
+        ensures { ItemOr (noted self.now) text NoText result }
+    {
+        self.lens.get(text).copied().ok_or(BookFault::NoText)
+    }
 }

@@ -1,5 +1,5 @@
 ghost use Rattle.std.specs.Prelude.{◌≡◌, ℕ, List};
-ghost use Rattle.model.specs.Answers.{opened, tossed};
+ghost use Rattle.model.specs.Answers.{opened, edited, tossed};
 ghost use Rattle.model.specs.Book.{book_step};
 ghost use Rattle.model.specs.Calls.{open_version, edit, put_piece, put_version};
 ghost use Rattle.model.specs.Calls as calls;
@@ -18,6 +18,17 @@ pub struct Draft {
 }
 
 impl Draft {
+    // What an edit came to, with the receipt. A match, since each arm moves the receipt.
+    fn with(self, edit: Result<usize, BookFault>) -> Result<(Draft, usize), (Draft, BookFault)>
+        ensures told { edit_answer result ≡ answer edited edit }
+        ensures same { receipt result ≡ self }
+    {
+        match edit {
+            Ok(made) => Ok((self, made)),
+            Err(fault) => Err((self, fault)),
+        }
+    }
+
     // Opens a draft of a kept version.
     pub fn open(book: &mut Book, version: usize) -> Result<Draft, BookFault>
         ensures steps { (texts : List (List ℕ)) → book_step texts (view book.old) (open_version version) ≡ (answer (λ _. opened) result, view book.new) }
@@ -39,10 +50,7 @@ impl Draft {
         ensures steps { (texts : List (List ℕ)) → book_step texts (view book.old) (edit (put_piece place text from len)) ≡ (edit_answer result, view book.new) }
         ensures same { receipt result ≡ self }
     {
-        match book.put_piece(place, text, from, len) {
-            Ok(made) => Ok((self, made)),
-            Err(fault) => Err((self, fault)),
-        }
+        self.with(book.put_piece(place, text, from, len))
     }
 
     // Puts a kept version into the draft at `place`.
@@ -55,10 +63,7 @@ impl Draft {
         ensures steps { (texts : List (List ℕ)) → book_step texts (view book.old) (edit (put_version place version)) ≡ (edit_answer result, view book.new) }
         ensures same { receipt result ≡ self }
     {
-        match book.put_version(place, version) {
-            Ok(made) => Ok((self, made)),
-            Err(fault) => Err((self, fault)),
-        }
+        self.with(book.put_version(place, version))
     }
 
     // Drops `len` bytes of the draft at `from`.
@@ -71,10 +76,7 @@ impl Draft {
         ensures steps { (texts : List (List ℕ)) → book_step texts (view book.old) (edit (calls.cut from len)) ≡ (edit_answer result, view book.new) }
         ensures same { receipt result ≡ self }
     {
-        match book.cut(from, len) {
-            Ok(made) => Ok((self, made)),
-            Err(fault) => Err((self, fault)),
-        }
+        self.with(book.cut(from, len))
     }
 
     // Drops all of the draft but `len` bytes at `from`.
@@ -87,10 +89,7 @@ impl Draft {
         ensures steps { (texts : List (List ℕ)) → book_step texts (view book.old) (edit (calls.crop from len)) ≡ (edit_answer result, view book.new) }
         ensures same { receipt result ≡ self }
     {
-        match book.crop(from, len) {
-            Ok(made) => Ok((self, made)),
-            Err(fault) => Err((self, fault)),
-        }
+        self.with(book.crop(from, len))
     }
 
     // Makes the draft the next version, which ends the receipt. A refusal hands it back.
@@ -98,6 +97,7 @@ impl Draft {
         ensures steps { (texts : List (List ℕ)) → book_step texts (view book.old) calls.keep ≡ (keep_answer result, view book.new) }
         ensures handed { HandedBack self result }
     {
+        // A match, since each arm moves the receipt.
         match book.keep() {
             Ok(kept) => {
                 let Draft { version: _ } = self;

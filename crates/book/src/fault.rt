@@ -32,6 +32,7 @@ pub enum BookFault {
 }
 
 impl BookFault {
+    // The numbers are this enum's own: a trait of all faults, or a `From`, would leave the same match.
     pub fn row(&self) -> Row
         ensures { result ≡ book_row self.now }
     {

@@ -5,9 +5,12 @@
 mod book;
 mod contents;
 mod draft;
+mod edit;
 mod fault;
 mod node;
 mod nodes;
+mod reader;
+mod size;
 
 pub use book::Book;
 pub use book::drafts::Kept;
@@ -16,3 +19,4 @@ pub use contents::MOST_VERSIONS;
 pub use draft::Draft;
 pub use fault::BookFault;
 pub use node::{MOST_SLOTS, Node, Shape};
+pub use reader::Reader;

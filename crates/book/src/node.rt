@@ -1,5 +1,6 @@
 ghost use Rattle.std.specs.Prelude.{◌≡◌, ◌+◌, ◌^◌, ◌<◌};
 ghost use Rattle.book.specs.Sides.{tree_side, ordered};
+ghost use Rattle.book.specs.Built.{in_turn};
 
 // The greatest number of slots: a slot is numbered in 16 bits.
 pub const MOST_SLOTS: usize = 65_536;
@@ -41,47 +42,41 @@ pub struct Places {
 #[derive(Clone, Copy)]
 pub struct NoRoom;
 
-// A tree that was built: its slot, and how many slots were taken.
+// What was built: the slot of a tree, a root, which is none where the tree is empty, or two of these; and how many slots were taken.
 #[derive(Clone, Copy)]
-pub struct Built {
-    pub slot: u16,
+pub struct Built<T> {
+    pub value: T,
     pub made: usize,
 }
 
-impl Built {
+impl<T: Copy> Built<T> {
+    // What was there: no slot was taken.
+    pub(crate) fn there(value: T) -> Built<T>
+        ensures { result ≡ record { value = value; made = 0 } }
+    {
+        Built { value, made: 0 }
+    }
+
     // One building, and another that goes on with its result.
-    pub(crate) fn then(self, next: Built) -> Built
+    pub(crate) fn then<U: Copy>(self, next: Built<U>) -> Built<U>
         requires { self.made + next.made < 2 ^ 64 }
-        ensures { (result.slot ≡ next.slot) × (result.made ≡ self.made + next.made) }
+        ensures { result ≡ in_turn self next }
     {
         Built {
-            slot: next.slot,
+            value: next.value,
             made: self.made + next.made,
         }
     }
-}
 
-// The two parts of a split: their slots, and how many slots were taken.
-#[derive(Clone, Copy)]
-pub struct Parts {
-    pub left: u16,
-    pub right: u16,
-    pub made: usize,
-}
-
-// A tree that was built, none if it is empty.
-#[derive(Clone, Copy)]
-pub struct Edited {
-    pub root: Option<u16>,
-    pub made: usize,
-}
-
-// The two parts of a split anywhere, none where one is empty.
-#[derive(Clone, Copy)]
-pub struct Halves {
-    pub left: Option<u16>,
-    pub right: Option<u16>,
-    pub made: usize,
+    // Another value, for which the same slots were taken.
+    pub(crate) fn with<U: Copy>(self, value: U) -> Built<U>
+        ensures { result ≡ record { value = value; made = self.made } }
+    {
+        Built {
+            value,
+            made: self.made,
+        }
+    }
 }
 
 // A change of a tree. A tree may be empty: then it has no root.

@@ -1,8 +1,7 @@
-ghost use Rattle.std.specs.Prelude.{◌≡◌, ◌≤◌, map, length};
+ghost use Rattle.std.specs.Prelude.{◌≡◌, map, length};
 ghost use Rattle.model.specs.Book.{same};
-ghost use Rattle.shelf.specs.Texts.{most_texts};
 ghost use Rattle.book.specs.Access.{Settled, RootAnswer};
-ghost use Rattle.book.specs.Contents.{noted, settled as settled_slots};
+ghost use Rattle.book.specs.Contents.{settled as settled_slots};
 ghost use Rattle.book.specs.Whole.{view};
 
 use super::Book;
@@ -15,24 +14,19 @@ use shelf::Shelf;
 fn settled_count(places: &Places, contents: &Contents) -> usize
     ensures { result ≡ settled_slots places.now.used contents.now.draft }
 {
-    match contents.draft {
-        None => places.used,
-        Some(draft) => draft.base,
-    }
+    contents.draft.map_or(places.used, |draft| draft.base)
 }
 
 // Whether the texts on a shelf have the noted count and lengths, text by text.
-fn same_texts<S: Shelf>(contents: &Contents, shelf: &S) -> bool
-    requires few { contents.now.count ≤ most_texts }
-    requires fit { contents.now.count ≤ length contents.now.lens }
-    ensures { result ≡ same (map length (S.texts shelf.now)) (noted contents.now) }
+fn same_texts<S: Shelf>(lens: &[usize], shelf: &S) -> bool
+    ensures { result ≡ same (map length (S.texts shelf.now)) lens.now }
 {
-    let count = shelf.count();
-    if count != contents.count {
+    if shelf.count() != lens.len() {
         return false;
     }
-    for k in 0..count {
-        if shelf.length(k).unwrap_or(0) != contents.lens[k] {
+    // A loop over the noted lengths, each compared with the shelf's answer.
+    for (k, len) in lens.iter().enumerate() {
+        if shelf.length(k) != Some(*len) {
             return false;
         }
     }
@@ -52,16 +46,13 @@ impl<'a> Book<'a> {
     pub fn root(&self, version: usize) -> Result<Option<u16>, BookFault>
         ensures { RootAnswer (view self.now) version result }
     {
-        if version >= self.contents.kept {
-            return Err(BookFault::NotKept);
-        }
-        Ok(self.contents.roots[version])
+        self.contents.root(version)
     }
 
     // Whether a shelf shows the count and the lengths that the book noted.
     pub fn has_texts<S: Shelf>(&self, shelf: &S) -> bool
         ensures { result ≡ same (map length (S.texts shelf.now)) (view self.now).lengths }
     {
-        same_texts(&self.contents, shelf)
+        same_texts(&self.contents.lens, shelf)
     }
 }

@@ -7,7 +7,7 @@ ghost use Rattle.book.specs.Faults.{answer};
 ghost use Rattle.book.specs.Whole.{view};
 
 use super::Book;
-use crate::contents::{MOST_VERSIONS, OpenDraft};
+use crate::contents::OpenDraft;
 use crate::fault::BookFault;
 
 // A draft that was kept: its number as a version, and how many slots were made since it was opened.
@@ -27,14 +27,12 @@ impl<'a> Book<'a> {
             places,
             contents,
         } = self;
-        if version >= contents.kept {
-            return Err(BookFault::NotKept);
-        }
+        let root = contents.root(version)?;
         if contents.draft.is_some() {
             return Err(BookFault::DraftOpen);
         }
         contents.draft = Some(OpenDraft {
-            root: contents.roots[version],
+            root,
             base: places.used,
         });
         Ok(())
@@ -52,12 +50,11 @@ impl<'a> Book<'a> {
         let Some(draft) = contents.draft else {
             return Err(BookFault::NoDraft);
         };
-        let version = contents.kept;
-        if version >= MOST_VERSIONS {
+        let version = contents.roots.len();
+        if contents.roots.is_full() {
             return Err(BookFault::AllKept);
         }
-        contents.roots[version] = draft.root;
-        contents.kept = version + 1;
+        contents.roots.push(draft.root);
         contents.draft = None;
         Ok(Kept {
             version,

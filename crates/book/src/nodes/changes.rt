@@ -7,7 +7,7 @@ ghost use Rattle.book.specs.Changing.{Root, any_in, Two, Gets, Allowed, changed}
 
 use super::any::{join_any, split_any};
 use super::writes::leaf;
-use crate::node::{Change, Edited, NoRoom, Node, Places};
+use crate::node::{Built, Change, NoRoom, Node, Places};
 
 // The tree at a slot put in at a place: the split there, then the join of its left part and the tree, then that with its right part.
 fn put(
@@ -16,19 +16,16 @@ fn put(
     root: Option<u16>,
     place: u32,
     tree: u16,
-) -> Result<Edited, NoRoom>
+) -> Result<Built<Option<u16>>, NoRoom>
     requires { Two (store nodes.old places.old) root (Some tree) }
     ensures { Gets (store nodes.old places.old) (store nodes.new places.new)
         (rules.put places.old.used (any_in (store nodes.old places.old) root) place
         (tree_in (store nodes.old places.old) tree)) result }
 {
     let parts = split_any(nodes, places, root, place)?;
-    let front = join_any(nodes, places, parts.left, Some(tree))?;
-    let whole = join_any(nodes, places, front.root, parts.right)?;
-    Ok(Edited {
-        root: whole.root,
-        made: parts.made + front.made + whole.made,
-    })
+    let front = join_any(nodes, places, parts.value.0, Some(tree))?;
+    let whole = join_any(nodes, places, front.value, parts.value.1)?;
+    Ok(parts.then(front).then(whole))
 }
 
 // A new piece put in at a place.
@@ -40,7 +37,7 @@ fn put_leaf(
     text: u8,
     start: u32,
     len: u32,
-) -> Result<Edited, NoRoom>
+) -> Result<Built<Option<u16>>, NoRoom>
     requires ready { Ready (store nodes.old places.old) }
     requires root { Root places.old.used root }
     requires some { 0 < len }
@@ -50,11 +47,8 @@ fn put_leaf(
         (rules.put_piece places.old.used (any_in (store nodes.old places.old) root) place text start len) result }
 {
     let piece = leaf(nodes, places, text, start, len)?;
-    let whole = put(nodes, places, root, place, piece.slot)?;
-    Ok(Edited {
-        root: whole.root,
-        made: piece.made + whole.made,
-    })
+    let whole = put(nodes, places, root, place, piece.value)?;
+    Ok(piece.then(whole))
 }
 
 // A tree without `len` bytes at `from`: the split at `from`, the split of its right part at `len`, and the join of the outer parts.
@@ -64,43 +58,38 @@ fn cut(
     root: Option<u16>,
     from: u32,
     len: u32,
-) -> Result<Edited, NoRoom>
+) -> Result<Built<Option<u16>>, NoRoom>
     requires ready { Ready (store nodes.old places.old) }
     requires root { Root places.old.used root }
     ensures { Gets (store nodes.old places.old) (store nodes.new places.new)
         (rules.cut places.old.used (any_in (store nodes.old places.old) root) from len) result }
 {
     if len == 0 {
-        return Ok(Edited { root, made: 0 });
+        return Ok(Built::there(root));
     }
     let outer = split_any(nodes, places, root, from)?;
-    let inner = split_any(nodes, places, outer.right, len)?;
-    let whole = join_any(nodes, places, outer.left, inner.right)?;
-    Ok(Edited {
-        root: whole.root,
-        made: outer.made + inner.made + whole.made,
-    })
+    let inner = split_any(nodes, places, outer.value.1, len)?;
+    let whole = join_any(nodes, places, outer.value.0, inner.value.1)?;
+    Ok(outer.then(inner).then(whole))
 }
 
 // The `len` bytes of a tree at `from`: the same two splits, and the middle part.
+// Each of `cut` and `crop` is written as the tree rules state it: a common part would need a contract of three parts.
 fn crop(
     nodes: &mut [Node],
     places: &mut Places,
     root: Option<u16>,
     from: u32,
     len: u32,
-) -> Result<Edited, NoRoom>
+) -> Result<Built<Option<u16>>, NoRoom>
     requires ready { Ready (store nodes.old places.old) }
     requires root { Root places.old.used root }
     ensures { Gets (store nodes.old places.old) (store nodes.new places.new)
         (rules.crop places.old.used (any_in (store nodes.old places.old) root) from len) result }
 {
     let outer = split_any(nodes, places, root, from)?;
-    let inner = split_any(nodes, places, outer.right, len)?;
-    Ok(Edited {
-        root: inner.left,
-        made: outer.made + inner.made,
-    })
+    let inner = split_any(nodes, places, outer.value.1, len)?;
+    Ok(outer.then(inner).with(inner.value.0))
 }
 
 // The tree that a change makes.
@@ -109,7 +98,7 @@ pub(crate) fn build(
     places: &mut Places,
     root: Option<u16>,
     change: Change,
-) -> Result<Edited, NoRoom>
+) -> Result<Built<Option<u16>>, NoRoom>
     requires { Allowed (store nodes.old places.old) root change }
     ensures { Gets (store nodes.old places.old) (store nodes.new places.new)
         (changed (store nodes.old places.old) root change) result }
@@ -121,7 +110,7 @@ pub(crate) fn build(
             start,
             len,
         } => put_leaf(nodes, places, root, place, text, start, len),
-        Change::Tree { root: None, .. } => Ok(Edited { root, made: 0 }),
+        Change::Tree { root: None, .. } => Ok(Built::there(root)),
         Change::Tree {
             place,
             root: Some(tree),

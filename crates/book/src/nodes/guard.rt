@@ -1,28 +1,28 @@
-ghost use Rattle.std.specs.Prelude.{◌≡◌, if◌then◌else◌};
+ghost use Rattle.std.specs.Prelude.{◌≡◌};
+ghost use Rattle.std.specs.Option.{unwrap_or};
 ghost use Rattle.book.specs.Records.{store};
 ghost use Rattle.book.specs.Changing.{Allowed, changed, Changes};
 
 use super::changes::build;
-use crate::node::{Change, Edited, NoRoom, Node, Places};
+use crate::node::{Built, Change, NoRoom, Node, Places};
 
 // Holds the places in use while a change is made, and gives back every slot taken unless the change is done.
 struct Guard<'a> {
     places: &'a mut Places,
-    start: usize,
-    done: bool,
+    // The number of places in use to go back to, none once the change is done.
+    start: Option<usize>,
 }
 
 impl Drop for Guard<'_> {
     fn drop(self)
-        ensures { self.exit.0.now.used ≡ (if self.entry.done then self.entry.places.now.used else self.entry.start) }
+        ensures { self.exit.0.now.used ≡ unwrap_or self.entry.start self.entry.places.now.used }
     {
-        if !self.done {
-            self.places.used = self.start;
+        if let Some(start) = self.start {
+            self.places.used = start;
         }
         let Guard {
             places: _,
             start: _,
-            done: _,
         } = self;
     }
 }
@@ -33,18 +33,14 @@ pub(crate) fn change(
     places: &mut Places,
     root: Option<u16>,
     change: Change,
-) -> Result<Edited, NoRoom>
+) -> Result<Built<Option<u16>>, NoRoom>
     requires { Allowed (store nodes.old places.old) root change }
     ensures { Changes (store nodes.old places.old) (store nodes.new places.new)
         (changed (store nodes.old places.old) root change) result }
 {
-    let start = places.used;
-    let mut guard = Guard {
-        places,
-        start,
-        done: false,
-    };
+    let start = Some(places.used);
+    let mut guard = Guard { places, start };
     let edited = build(nodes, guard.places, root, change)?;
-    guard.done = true;
+    guard.start = None;
     Ok(edited)
 }

@@ -28,14 +28,14 @@ fn fork_four(
     x: u16,
     y: u16,
     z: u16,
-) -> Result<Built, NoRoom>
+) -> Result<Built<u16>, NoRoom>
     requires { Four (store nodes.old places.old) w x y z }
     ensures { Builds (store nodes.old places.old) (store nodes.new places.new)
         (write places.old.used (four (store nodes.old places.old) w x y z)) result }
 {
     let left = fork(nodes, places, Side::Left, w, x)?;
     let right = fork(nodes, places, Side::Left, y, z)?;
-    let top = fork(nodes, places, Side::Left, left.slot, right.slot)?;
+    let top = fork(nodes, places, Side::Left, left.value, right.value)?;
     Ok(left.then(right.then(top)))
 }
 
@@ -47,7 +47,7 @@ fn lean(
     side: Side,
     a: u16,
     t: u16,
-) -> Result<Built, NoRoom>
+) -> Result<Built<u16>, NoRoom>
     requires { Leaning (store nodes.old places.old) a t }
     ensures { Builds (store nodes.old places.old) (store nodes.new places.new)
         (write places.old.used (rules.lean (tree_side side) (tree_in (store nodes.old places.old) a)
@@ -61,7 +61,7 @@ fn lean(
         _ if t_height <= a_height + 1 => fork(nodes, places, side, a, t),
         _ if c_height <= d_height => {
             let inner = fork(nodes, places, side, a, c)?;
-            let outer = fork(nodes, places, side, inner.slot, d)?;
+            let outer = fork(nodes, places, side, inner.value, d)?;
             Ok(inner.then(outer))
         }
         Side::Left => fork_four(nodes, places, a, e, f, d),
@@ -76,7 +76,7 @@ pub(crate) fn join(
     places: &mut Places,
     left: u16,
     right: u16,
-) -> Result<Built, NoRoom>
+) -> Result<Built<u16>, NoRoom>
     requires { Pair (store nodes.old places.old) left right }
     ensures { Builds (store nodes.old places.old) (store nodes.new places.new)
         (rules.join places.old.used (tree_in (store nodes.old places.old) left)
@@ -89,7 +89,7 @@ pub(crate) fn join(
             let (a, b) = sides(nodes, side, high);
             let (x, y) = side.order(b, low);
             let t = join(nodes, places, x, y)?;
-            let top = lean(nodes, places, side, a, t.slot)?;
+            let top = lean(nodes, places, side, a, t.value)?;
             Ok(t.then(top))
         }
     }

@@ -5,7 +5,7 @@ ghost use Rattle.book.specs.Parting.{Inside, Splits};
 
 use super::joins::join;
 use super::writes::leaf;
-use crate::node::{NoRoom, Node, Parts, Places, Shape};
+use crate::node::{Built, NoRoom, Node, Places, Shape};
 
 // The parts of the tree at a slot before and behind a place, which is strictly inside it.
 pub(crate) fn split(
@@ -13,7 +13,7 @@ pub(crate) fn split(
     places: &mut Places,
     slot: u16,
     place: u32,
-) -> Result<Parts, NoRoom>
+) -> Result<Built<(u16, u16)>, NoRoom>
     requires { Inside (store nodes.old places.old) slot place }
     ensures { Splits (store nodes.old places.old) (store nodes.new places.new)
         (rules.split places.old.used (tree_in (store nodes.old places.old) slot) place) result }
@@ -23,36 +23,20 @@ pub(crate) fn split(
         Shape::Piece { text, start } => {
             let left = leaf(nodes, places, text, start, place)?;
             let right = leaf(nodes, places, text, start + place, len - place)?;
-            Ok(Parts {
-                left: left.slot,
-                right: right.slot,
-                made: left.made + right.made,
-            })
+            Ok(left.then(right).with((left.value, right.value)))
         }
         Shape::Fork { left, right } => {
             let first = nodes[left as usize].len;
             if place < first {
                 let part = split(nodes, places, left, place)?;
-                let rest = join(nodes, places, part.right, right)?;
-                Ok(Parts {
-                    left: part.left,
-                    right: rest.slot,
-                    made: part.made + rest.made,
-                })
+                let rest = join(nodes, places, part.value.1, right)?;
+                Ok(part.then(rest).with((part.value.0, rest.value)))
             } else if place == first {
-                Ok(Parts {
-                    left,
-                    right,
-                    made: 0,
-                })
+                Ok(Built::there((left, right)))
             } else {
                 let part = split(nodes, places, right, place - first)?;
-                let front = join(nodes, places, left, part.left)?;
-                Ok(Parts {
-                    left: front.slot,
-                    right: part.right,
-                    made: part.made + front.made,
-                })
+                let front = join(nodes, places, left, part.value.0)?;
+                Ok(part.then(front).with((front.value, part.value.1)))
             }
         }
     }

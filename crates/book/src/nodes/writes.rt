@@ -20,7 +20,7 @@ pub(crate) fn sides(nodes: &[Node], side: Side, slot: u16) -> (u16, u16)
 }
 
 // Writes a record at the next free slot.
-fn put_record(nodes: &mut [Node], places: &mut Places, node: Node) -> Result<Built, NoRoom>
+fn put_record(nodes: &mut [Node], places: &mut Places, node: Node) -> Result<Built<u16>, NoRoom>
     ensures { MatchResult result
         (λ b. Added (store nodes.old places.old) (store nodes.new places.new) node b)
         (λ _. (nodes.new ≡ nodes.old) × (room nodes.old ≤ places.old.used)) }
@@ -32,7 +32,7 @@ fn put_record(nodes: &mut [Node], places: &mut Places, node: Node) -> Result<Bui
     nodes[slot] = node;
     places.used = slot + 1;
     Ok(Built {
-        slot: slot as u16,
+        value: slot as u16,
         made: 1,
     })
 }
@@ -44,7 +44,7 @@ pub(crate) fn leaf(
     text: u8,
     start: u32,
     len: u32,
-) -> Result<Built, NoRoom>
+) -> Result<Built<u16>, NoRoom>
     requires ready { Ready (store nodes.old places.old) }
     requires some { 0 < len }
     requires ends { start + len ≤ limit }
@@ -70,7 +70,7 @@ pub(crate) fn fork(
     side: Side,
     a: u16,
     b: u16,
-) -> Result<Built, NoRoom>
+) -> Result<Built<u16>, NoRoom>
     requires { Level (store nodes.old places.old) a b }
     ensures { Builds (store nodes.old places.old) (store nodes.new places.new)
         (one (on (tree_side side) places.old.used (tree_in (store nodes.old places.old) a)

@@ -1,40 +1,32 @@
-use Rattle.std.proofs.Common.{◌≡◌, ℕ, map, length, get_or, sym, ap, ◌∙◌, arith, length-take}
-use Rattle.std.proofs.lemmas.List.{take_all, length-map, take_more_same, get_or-take}
-use Rattle.book.specs.Contents.{noted}
-use Rattle.book.proofs.Noting.{length_told, same_true, same_false}
+use Rattle.std.proofs.Common.{◌≡◌, ℕ, map, length, get_or, sym, ap, ◌∙◌, arith}
+use Rattle.std.proofs.lemmas.List.{take_all, length-map, take_more_same}
+use Rattle.book.proofs.Noting.{same_length, other_length, same_true, same_false}
 use Rattle.book.proofs.book.access.same_texts.Goals as goal
 
-pub returns-then-count-contents : goal.returns-then-count-contents
-returns-then-count-contents g c =
+pub returns-then-count-lens : goal.returns-then-count-lens
+returns-then-count-lens g c =
     let ts = g.S.Shelf.texts c.args.shelf.now in
-    let p = c.args.contents.now in
-    same_false (noted p) (map length ts)
-    (λ e. let n : length (noted p) ≡ length (map (length {A = ℕ}) ts) = ap length e in
-    c.if-count-contents.true (omega (arith, length-take p.count p.lens, length-map ts (length {A = ℕ}), c.requires.fit)))
+    same_false c.args.lens.now (map length ts)
+    (λ e. let n : length c.args.lens.now ≡ length (map (length {A = ℕ}) ts) = ap length e in
+    c.if-count-lens.true (omega (arith, length-map ts (length {A = ℕ}))))
 
-pub returns-then-unwrap_or-contents : goal.returns-then-unwrap_or-contents
-returns-then-unwrap_or-contents g c =
+pub returns-then-ne : goal.returns-then-ne
+returns-then-ne g c =
     let ts = g.S.Shelf.texts c.args.shelf.now in
-    let p = c.args.contents.now in
     let k = c.loop-k.k in
-    same_false (noted p) (map length ts)
-    (λ e. c.if-unwrap_or-contents.true
-    (length_told ts k c.unwrap_or.result c.length.result (omega arith) c.length.ensures c.unwrap_or.ensures
-    ∙ ap (λ x. get_or x k 0) (sym e) ∙ get_or-take p.count p.lens k 0 (omega arith)))
+    same_false c.args.lens.now (map length ts)
+    (λ e. other_length ts k (get_or c.args.lens.now k 0) (omega arith) c.length.ensures c.ne.ensures c.if-ne.true (ap (λ x. get_or x k 0) (sym e)))
 
 pub loop-k-preserved : goal.loop-k-preserved
 loop-k-preserved g c =
     let ts = g.S.Shelf.texts c.args.shelf.now in
-    let p = c.args.contents.now in
     let k = c.loop-k.k in
-    take_more_same (noted p) (map length ts) k 0 (omega (arith, length-take p.count p.lens, c.requires.fit)) (omega (arith, length-map ts (length {A = ℕ}))) c.loop-k.invariant
-    (get_or-take p.count p.lens k 0 (omega arith) ∙ sym c.if-unwrap_or-contents.false
-    ∙ length_told ts k c.unwrap_or.result c.length.result (omega arith) c.length.ensures c.unwrap_or.ensures)
+    take_more_same c.args.lens.now (map length ts) k 0 (omega arith) (omega (arith, length-map ts (length {A = ℕ}))) c.loop-k.invariant
+    (sym (same_length ts k (get_or c.args.lens.now k 0) (omega arith) c.length.ensures c.ne.ensures c.if-ne.false))
 
 pub returns : goal.returns
 returns g c =
     let ts = g.S.Shelf.texts c.args.shelf.now in
-    let p = c.args.contents.now in
-    same_true (noted p) (map length ts)
-    (sym (take_all c.loop-k.k (noted p) (omega (arith, length-take p.count p.lens))) ∙ c.loop-k.invariant
+    same_true c.args.lens.now (map length ts)
+    (sym (take_all c.loop-k.k c.args.lens.now (omega arith)) ∙ c.loop-k.invariant
     ∙ take_all c.loop-k.k (map length ts) (omega (arith, length-map ts (length {A = ℕ}))))

@@ -4,7 +4,7 @@ use Rattle.book.proofs.Roots.{end_halves, is_inside, inside_fails, inside_halves
 use Rattle.book.proofs.nodes.any.split_any.Goals as goal
 
 pub returns-then-nodes-slot : goal.returns-then-nodes-slot
-returns-then-nodes-slot c = end_halves c.args.root c.in-Some.slot c.args.place c.requires.ready c.requires.root c.in-Some.is (omega (arith, c.if-place-eq0.false)) c.if-nodes-slot.true
+returns-then-nodes-slot c = rw c.there-then-nodes-slot.ensures (end_halves c.args.root c.in-Some.slot c.args.place c.requires.ready c.requires.root c.in-Some.is (omega (arith, c.if-place-eq0.false)) c.if-nodes-slot.true)
 
 pub split-requires : goal.split-requires
 split-requires c = is_inside c.args.root c.in-Some.slot c.args.place c.requires.ready c.requires.root c.in-Some.is (omega (arith, c.if-place-eq0.false)) c.if-nodes-slot.false
@@ -16,5 +16,5 @@ returns-in_err-parts c =
     c.in_err-parts.ensures.case)
 
 pub returns : goal.returns
-returns c = inside_halves c.args.root c.in-Some.slot c.args.place c.requires.ready c.requires.root c.in-Some.is (omega (arith, c.if-place-eq0.false)) c.if-nodes-slot.false
-    c.in_ok-parts.parts c.in_ok-parts.ensures.case
+returns c = rw c.with.ensures (inside_halves c.args.root c.in-Some.slot c.args.place c.requires.ready c.requires.root c.in-Some.is (omega (arith, c.if-place-eq0.false)) c.if-nodes-slot.false
+    c.in_ok-parts.parts c.in_ok-parts.ensures.case)

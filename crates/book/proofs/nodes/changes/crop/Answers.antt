@@ -14,5 +14,5 @@ returns-in_err-inner c =
     c.in_err-inner.ensures.case)
 
 pub returns : goal.returns
-returns c = crop_done c.args.root c.args.from c.requires.ready c.requires.root c.in_ok-outer.outer c.in_ok-outer.ensures.case c.args.len
-    c.in_ok-inner.inner c.in_ok-inner.ensures.case
+returns c = rw (c.with.ensures, c.then.ensures) (crop_done c.args.root c.args.from c.requires.ready c.requires.root c.in_ok-outer.outer c.in_ok-outer.ensures.case c.args.len
+    c.in_ok-inner.inner c.in_ok-inner.ensures.case)

@@ -25,5 +25,5 @@ returns-in_err-whole c =
     c.in_ok-inner.inner c.in_ok-inner.ensures.case (omega (arith, c.if-len-eq0.false)) c.in_err-whole.ensures.case)
 
 pub returns : goal.returns
-returns c = cut_done c.args.root c.args.from c.requires.ready c.requires.root c.in_ok-outer.outer c.in_ok-outer.ensures.case c.args.len
-    c.in_ok-inner.inner c.in_ok-inner.ensures.case c.in_ok-whole.whole (omega (arith, c.if-len-eq0.false)) c.in_ok-whole.ensures.case
+returns c = rw (c.then-2.ensures, c.then.ensures) (cut_done c.args.root c.args.from c.requires.ready c.requires.root c.in_ok-outer.outer c.in_ok-outer.ensures.case c.args.len
+    c.in_ok-inner.inner c.in_ok-inner.ensures.case c.in_ok-whole.whole (omega (arith, c.if-len-eq0.false)) c.in_ok-whole.ensures.case)

@@ -30,6 +30,6 @@ returns-in_err-whole c =
     c.in_ok-front.front c.in_ok-front.ensures.case c.in_err-whole.ensures.case)
 
 pub returns : goal.returns
-returns c = put_done c.args.root c.args.place c.requires.ready c.requires.left c.in_ok-parts.parts c.in_ok-parts.ensures.case
+returns c = rw (c.then-2.ensures, c.then.ensures) (put_done c.args.root c.args.place c.requires.ready c.requires.left c.in_ok-parts.parts c.in_ok-parts.ensures.case
     c.args.tree c.requires.right c.requires.short
-    c.in_ok-front.front c.in_ok-front.ensures.case c.in_ok-whole.whole c.in_ok-whole.ensures.case
+    c.in_ok-front.front c.in_ok-front.ensures.case c.in_ok-whole.whole c.in_ok-whole.ensures.case)

@@ -13,6 +13,6 @@ returns-in_err-whole c =
     c.in_ok-piece.piece c.in_ok-piece.ensures.case c.in_err-whole.ensures.case)
 
 pub returns : goal.returns
-returns c = leaf_done c.args.root c.args.place c.args.text c.args.start c.args.len c.requires.ready c.requires.root c.requires.short
+returns c = rw c.then.ensures (leaf_done c.args.root c.args.place c.args.text c.args.start c.args.len c.requires.ready c.requires.root c.requires.short
     c.in_ok-piece.piece c.in_ok-piece.ensures.case
-    c.in_ok-whole.whole c.in_ok-whole.ensures.case
+    c.in_ok-whole.whole c.in_ok-whole.ensures.case)

@@ -43,6 +43,6 @@ pub returns-in-None : goal.returns-in-None
 returns-in-None t c = level_done c.args.left c.args.right c.requires c.in-None.ensures c.fork.ensures
 
 pub returns-in_ok-top-in-Some : goal.returns-in_ok-top-in-Some
-returns-in_ok-top-in-Some t c = join_done c.in-Some.side c.args.left c.args.right c.requires c.in-Some.ensures c.order-high.result c.order-high.ensures c.sides-a.result c.sides-a.ensures
+returns-in_ok-top-in-Some t c = rw c.then.ensures (join_done c.in-Some.side c.args.left c.args.right c.requires c.in-Some.ensures c.order-high.result c.order-high.ensures c.sides-a.result c.sides-a.ensures
     c.order-x.result c.order-x.ensures
-    c.in_ok-t-in-Some.t c.in_ok-t-in-Some.ensures.case c.in_ok-top-in-Some.top c.then.result c.in_ok-top-in-Some.ensures.case c.then.ensures
+    c.in_ok-t-in-Some.t c.in_ok-t-in-Some.ensures.case c.in_ok-top-in-Some.top c.in_ok-top-in-Some.ensures.case)

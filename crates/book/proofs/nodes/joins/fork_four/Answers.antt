@@ -27,6 +27,6 @@ returns-in_err-top c =
 
 pub returns : goal.returns
 returns c =
-    four_done c.args.w c.args.x c.args.y c.args.z c.requires c.in_ok-left.left c.in_ok-left.ensures.case
-    c.in_ok-right.right c.in_ok-right.ensures.case c.in_ok-top.top c.then.result c.then-2.result
-    c.in_ok-top.ensures.case c.then.ensures c.then-2.ensures
+    rw (c.then-2.ensures, c.then.ensures)
+    (four_done c.args.w c.args.x c.args.y c.args.z c.requires c.in_ok-left.left c.in_ok-left.ensures.case
+    c.in_ok-right.right c.in_ok-right.ensures.case c.in_ok-top.top c.in_ok-top.ensures.case)

@@ -60,9 +60,9 @@ returns-then-t_height-a_height c = plain_done (tree_side c.args.side) c.args.a c
 
 pub returns-in_ok-outer-in_default-2 : goal.returns-in_ok-outer-in_default-2
 returns-in_ok-outer-in_default-2 c =
-    once_done (tree_side c.args.side) c.args.a c.args.t c.requires c.sides-c.result c.sides-c.ensures c.if-t_height-a_height.false c.if-c_height-d_height.true
-    c.in_ok-inner-in_default-2.inner c.in_ok-inner-in_default-2.ensures.case c.in_ok-outer-in_default-2.outer c.then.result c.in_ok-outer-in_default-2.ensures.case
-    c.then.ensures
+    rw c.then.ensures
+    (once_done (tree_side c.args.side) c.args.a c.args.t c.requires c.sides-c.result c.sides-c.ensures c.if-t_height-a_height.false c.if-c_height-d_height.true
+    c.in_ok-inner-in_default-2.inner c.in_ok-inner-in_default-2.ensures.case c.in_ok-outer-in_default-2.outer c.in_ok-outer-in_default-2.ensures.case)
 
 pub returns-in-Left : goal.returns-in-Left
 returns-in-Left c =

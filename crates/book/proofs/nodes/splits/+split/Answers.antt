@@ -80,17 +80,17 @@ returns-in_err-front-in-Fork t c =
     c.in_ok-part-in-Fork-2.part c.in_ok-part-in-Fork-2.ensures.case c.in_err-front-in-Fork.ensures.case)
 
 pub returns-in_ok-right-in-Piece : goal.returns-in_ok-right-in-Piece
-returns-in_ok-right-in-Piece t c = piece_done c.args.slot c.args.place c.requires c.in-Piece.text c.in-Piece.start c.in-Piece.is
-    c.in_ok-left-in-Piece.left c.in_ok-left-in-Piece.ensures.case c.in_ok-right-in-Piece.right c.in_ok-right-in-Piece.ensures.case
+returns-in_ok-right-in-Piece t c = rw (c.with.ensures, c.then.ensures) (piece_done c.args.slot c.args.place c.requires c.in-Piece.text c.in-Piece.start c.in-Piece.is
+    c.in_ok-left-in-Piece.left c.in_ok-left-in-Piece.ensures.case c.in_ok-right-in-Piece.right c.in_ok-right-in-Piece.ensures.case)
 
 pub returns-in_ok-rest-in-Fork : goal.returns-in_ok-rest-in-Fork
-returns-in_ok-rest-in-Fork t c = left_done c.args.slot c.args.place c.requires c.in-Fork.left c.in-Fork.right c.in-Fork.is c.if-place-first.true
-    c.in_ok-part-in-Fork.part c.in_ok-part-in-Fork.ensures.case c.in_ok-rest-in-Fork.rest c.in_ok-rest-in-Fork.ensures.case
+returns-in_ok-rest-in-Fork t c = rw (c.with-then-place-first.ensures, c.then-then-place-first.ensures) (left_done c.args.slot c.args.place c.requires c.in-Fork.left c.in-Fork.right c.in-Fork.is c.if-place-first.true
+    c.in_ok-part-in-Fork.part c.in_ok-part-in-Fork.ensures.case c.in_ok-rest-in-Fork.rest c.in_ok-rest-in-Fork.ensures.case)
 
 pub returns-then-place-first-2 : goal.returns-then-place-first-2
-returns-then-place-first-2 t c = between_done c.args.slot c.args.place c.requires c.in-Fork.left c.in-Fork.right c.in-Fork.is c.if-place-first-2.true
+returns-then-place-first-2 t c = rw c.there.ensures (between_done c.args.slot c.args.place c.requires c.in-Fork.left c.in-Fork.right c.in-Fork.is c.if-place-first-2.true)
 
 pub returns-in_ok-front-in-Fork : goal.returns-in_ok-front-in-Fork
-returns-in_ok-front-in-Fork t c = right_done c.args.slot c.args.place c.requires c.in-Fork.left c.in-Fork.right c.in-Fork.is
+returns-in_ok-front-in-Fork t c = rw (c.with-else-place-first-2.ensures, c.then-else-place-first-2.ensures) (right_done c.args.slot c.args.place c.requires c.in-Fork.left c.in-Fork.right c.in-Fork.is
     (omega (arith, c.if-place-first.false, c.if-place-first-2.false))
-    c.in_ok-part-in-Fork-2.part c.in_ok-part-in-Fork-2.ensures.case c.in_ok-front-in-Fork.front c.in_ok-front-in-Fork.ensures.case
+    c.in_ok-part-in-Fork-2.part c.in_ok-part-in-Fork-2.ensures.case c.in_ok-front-in-Fork.front c.in_ok-front-in-Fork.ensures.case)
