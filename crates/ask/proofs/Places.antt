@@ -1,33 +1,35 @@
 -- Places where a pattern stands: inside a window of a string, and in the whole string.
-use Rattle.std.proofs.Common.{◌≡◌, ℕ, ◌+◌, ◌-◌, ◌<◌, ◌≤◌, Bool, List, length, get_or, take, drop, Some, None, Decides, Option, sym, refl, ap, ◌∙◌, ⊎_elim, add-zero, arith, length-drop, length-take}
-use Rattle.std.specs.List.{between}
-use Rattle.std.proofs.lemmas.List.{get_or-take, get_or-drop, take_rest}
+use Rattle.std.proofs.Common.{◌≡◌, ℕ, ◌+◌, ◌-◌, ◌<◌, ◌≤◌, List, ◌++◌, length, take, drop, Some, None, Option, sym, refl, ap, ◌∙◌, subst, ⊎_elim, arith, length-drop, length-take}
+use borrow.Rule.Slice.PartMut.{post_of}
 use Rattle.std.proofs.lemmas.Bool.{cases_lt, cases_order}
+use Rattle.memchr.specs.Find.{FindsNeedle}
+use Rattle.memchr.proofs.lemmas.MatchLemmas.{OccursAt-part, OccursAt-from_part}
 use Rattle.shelf.specs.Texts.{stretch}
 use Rattle.shelf.proofs.Copies.{stretch_take}
 use Rattle.model.specs.Plain.{first_place}
 use Rattle.model.specs.Found.{StandsAt, Found}
 use Rattle.model.proofs.Finds.{found_first}
-use Rattle.ask.proofs.Stretches.{stretch_inner}
+use Rattle.ask.proofs.Stretches.{stretch_inner, filled_front}
 
 module _ (pattern : List ℕ) (some : 0 < length pattern) where
   -- a pattern stands only where the string is long enough
   pub stands_inside : (s : List ℕ) (k : ℕ) → StandsAt pattern s k → k + length pattern ≤ length s
   stands_inside s k h = omega (arith, length-take (length pattern) (drop k s), length-drop k s, ap length h)
 
-  -- and only where its first byte does
-  pub first_byte : (s : List ℕ) (k d : ℕ) → StandsAt pattern s k → get_or s k d ≡ get_or pattern 0 d
-  first_byte s k d h =
-      ap (λ i. get_or s i d) (sym (add-zero k)) ∙ sym (get_or-drop k s 0 d) ∙ sym (get_or-take (length pattern) (drop k s) 0 d some) ∙ ap (λ xs. get_or xs 0 d) h
-
   -- in a window of `n` bytes from `at` on it stands where it does in the string
   in_window : (s : List ℕ) (at n k : ℕ) → k + length pattern ≤ n →
       take (length pattern) (drop k (stretch at n s)) ≡ take (length pattern) (drop (at + k) s)
   in_window s at n k h = stretch_take k (length pattern) n (drop at s) h ∙ stretch_inner at k (length pattern) s
 
--- what a comparison with the bytes from place k on decides
-pub stands_decides : (pattern s : List ℕ) (k : ℕ) (b : Bool) → Decides b (pattern ≡ take (length pattern) (between k (length s) s)) → Decides b (StandsAt pattern s k)
-stands_decides pattern s k b d = let e = rw take_rest at d in (λ t. sym (e.0 t), λ h. e.1 (sym h))
+-- the place of a needle in a string
+pub found_needle : (pattern : List ℕ) → 0 < length pattern → (s : List ℕ) (o : Option ℕ) → FindsNeedle s pattern 0 o → Found s 0 pattern o
+found_needle pattern some s None f = λ k l h.
+    let fits = stands_inside pattern some s k h in f k l (omega arith) (OccursAt-from_part s pattern k fits h)
+found_needle pattern some s (Some k) f = (
+  f.0.low,
+  OccursAt-part s pattern k f.1,
+  λ j l m h. f.0.before j l m (OccursAt-from_part s pattern j (stands_inside pattern some s j h) h),
+)
 
 -- the pattern stands nowhere from `from` on before `at`
 abbrev pub NoneBefore : (pattern s : List ℕ) (from at : ℕ) → Type 0
@@ -59,6 +61,15 @@ module _ (pattern : List ℕ) (some : 0 < length pattern) (s : List ℕ) (from :
   -- the rest of the string is too short
   pub found_nowhere : (at : ℕ) → NoneBefore pattern s from at → length s < at + length pattern → Found s from pattern None
   found_nowhere at none h k l e = none k l (omega (arith, stands_inside pattern some s k e)) e
+
+-- what a search finds in the first `n` bytes of a buffer, which were filled from place `at` of a string
+pub searched : (pattern : List ℕ) → 0 < length pattern → (s : List ℕ) (at n : ℕ) (out front : List ℕ) → n ≤ length out →
+    front ≡ stretch at (length (take (n - 0) out)) s → length front ≡ length (take (n - 0) out) →
+    (needle : List ℕ) → needle ≡ pattern → (o : Option ℕ) → FindsNeedle (take (n - 0) (front ++ post_of 0 (n - 0) out)) needle 0 o → Found (stretch at n s) 0 pattern o
+searched pattern some s at n out front h f e needle i o found =
+    found_needle pattern some (stretch at n s) o
+    (subst (λ (w : List ℕ). FindsNeedle w pattern 0 o) (filled_front s at n out front h f e)
+    (subst (λ (p : List ℕ). FindsNeedle (take (n - 0) (front ++ post_of 0 (n - 0) out)) p 0 o) i found))
 
 -- there is one answer
 found_once : (pattern s : List ℕ) (from : ℕ) (o p : Option ℕ) → Found s from pattern o → Found s from pattern p → o ≡ p

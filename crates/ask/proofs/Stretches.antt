@@ -1,8 +1,8 @@
 -- Stretches of strings that are laid one behind the other.
-use Rattle.std.proofs.Common.{◌≡◌, ℕ, ◌+◌, ◌-◌, ◌≤◌, List, [], ◌++◌, length, take, drop, sym, ap, ◌∙◌, ap₂, arith, length-drop, take-append-drop, length-take}
-use borrow.Rule.Slice.PartMut.{put_mid, post_of}
+use Rattle.std.proofs.Common.{◌≡◌, ℕ, ◌+◌, ◌-◌, ◌≤◌, List, ◌++◌, length, take, drop, sym, ap, ◌∙◌, ap₂, arith, length-drop, take-append-drop, length-take}
+use borrow.Rule.Slice.PartMut.{post_of}
 use lib.Seq.{drop-append-add}
-use Rattle.std.proofs.lemmas.List.{append-nil, drop-drop, drop-take, drop_at, drop_all, take-take, take_at, take-append-le, drop-append-le}
+use Rattle.std.proofs.lemmas.List.{drop-drop, drop-take, take-take, take_at, take-append-le, drop-append-le}
 use Rattle.shelf.specs.Texts.{stretch}
 
 -- a stretch of a stretch
@@ -31,15 +31,6 @@ stretch_both a b from p q e =
     let z : from + p - length a ≡ 0 = omega arith in
     stretch_parts from p q (a ++ b)
     ∙ ap₂ (λ (x y : List ℕ). x ++ y) (stretch_left a b from p (omega arith)) (stretch_right a b (from + p) q (omega arith) ∙ ap (λ (i : ℕ). stretch i q b) z)
-
--- a buffer whose front and rest were filled
-pub filled_both : (m : ℕ) (out front rest : List ℕ) → m ≤ length out → length front ≡ m →
-    put_mid m (length out - m) (front ++ post_of 0 (m - 0) out) rest ≡ front ++ rest
-filled_both m out front rest h e =
-    let old = post_of 0 (m - 0) out in
-    let z : drop (length out - m) old ≡ [] = drop_all (length out - m) old (omega (arith, length-drop (m - 0) out)) in
-    let f : post_of m (length out - m) (front ++ old) ≡ [] = ap (drop (length out - m)) (drop_at front old m e) ∙ z in
-    ap₂ (λ (x y : List ℕ). x ++ (rest ++ y)) (take_at front old m e) f ∙ ap (λ (x : List ℕ). front ++ x) (append-nil rest)
 
 -- a buffer whose first `n` bytes were filled from place `at` of a string
 pub filled_front : (s : List ℕ) (at n : ℕ) (out front : List ℕ) → n ≤ length out → front ≡ stretch at (length (take (n - 0) out)) s →

@@ -4,7 +4,6 @@
 
 mod fill;
 mod questions;
-mod seek;
 mod stream;
 
 pub use questions::{Dimensions, LONGEST_PATTERN, find, read, shape};

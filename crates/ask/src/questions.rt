@@ -1,40 +1,25 @@
 ghost use Rattle.std.specs.Prelude.{◌≡◌, ℕ, List, map, length, OnErr};
-ghost use Rattle.tree.specs.Edits.{size_any};
 ghost use Rattle.model.specs.Answers.{bytes, found};
 ghost use Rattle.model.specs.Book.{book_step};
 ghost use Rattle.model.specs.Calls as calls;
-ghost use Rattle.book.specs.Records.{Sound};
-ghost use Rattle.book.specs.Changing.{Root, any_at};
 ghost use Rattle.book.specs.Faults.{answer};
 ghost use Rattle.book.specs.Whole.{view};
 ghost use Rattle.ask.specs.Told.{shape_told};
 
 use super::fill::fill;
 use super::stream::stream;
-use book::{Book, BookFault, Node};
+use book::{Book, BookFault};
 use shelf::Shelf;
 
 // The greatest length of a pattern, in bytes.
 pub const LONGEST_PATTERN: usize = 256;
 
 // The bytes, the height and the pieces of a version. An empty one has three zeros.
-#[derive(Clone, Copy, PartialEq, Eq, Debug)]
+#[derive(Clone, Copy, PartialEq, Eq, Debug, Default)]
 pub struct Dimensions {
     pub len: usize,
     pub height: usize,
     pub pieces: usize,
-}
-
-// The number of bytes of the tree at a root.
-fn length_of(nodes: &[Node], root: Option<u16>) -> usize
-    requires sound { Sound nodes.now }
-    requires root { Root (length nodes.now) root }
-    ensures { result ≡ size_any (any_at nodes.now root) }
-{
-    match root {
-        None => 0,
-        Some(slot) => nodes[slot as usize].len as usize,
-    }
 }
 
 // Fills `out` from place `from` of a version. On a refusal `out` is as it was.
@@ -50,17 +35,13 @@ pub fn read<S: Shelf>(
         ≡ (answer (λ _. bytes out.new) result, view book.now) }
     ensures refused { OnErr result (out.new ≡ out.old) }
 {
-    let root = book.root(version)?;
-    let nodes = book.settled();
-    let len = length_of(nodes, root);
-    if from > len || out.len() > len - from {
+    // A sum that is too large for its type is past the end too.
+    if from.saturating_add(out.len()) > book.length(version)? {
         return Err(BookFault::PastEnd);
     }
-    if !book.has_texts(shelf) {
-        return Err(BookFault::OtherTexts);
-    }
-    if let Some(slot) = root {
-        fill(nodes, shelf, slot, from, out)?;
+    let reader = book.reader(shelf)?;
+    if let Some(slot) = book.root(version)? {
+        fill(&reader, slot, from, out)?;
     }
     Ok(())
 }
@@ -77,21 +58,17 @@ pub fn find<S: Shelf>(
         (calls.find version from pattern.now (map length (S.texts shelf.now)))
         ≡ (answer found result, view book.now) }
 {
-    let root = book.root(version)?;
-    let nodes = book.settled();
-    if from > length_of(nodes, root) {
+    if from > book.length(version)? {
         return Err(BookFault::PastEnd);
     }
-    if pattern.len() == 0 || pattern.len() > LONGEST_PATTERN {
+    if pattern.is_empty() || pattern.len() > LONGEST_PATTERN {
         return Err(BookFault::BadPattern);
     }
-    if !book.has_texts(shelf) {
-        return Err(BookFault::OtherTexts);
-    }
-    let Some(slot) = root else {
+    let reader = book.reader(shelf)?;
+    let Some(slot) = book.root(version)? else {
         return Ok(None);
     };
-    Ok(stream(nodes, shelf, slot, from, pattern)?)
+    Ok(stream(&reader, slot, from, pattern)?)
 }
 
 // The length, the height and the pieces of a version.
@@ -102,11 +79,7 @@ pub fn shape(book: &Book<'_>, version: usize) -> Result<Dimensions, BookFault>
     let root = book.root(version)?;
     let nodes = book.settled();
     let Some(slot) = root else {
-        return Ok(Dimensions {
-            len: 0,
-            height: 0,
-            pieces: 0,
-        });
+        return Ok(Dimensions::default());
     };
     let node = &nodes[slot as usize];
     Ok(Dimensions {

@@ -1,13 +1,11 @@
 ghost use Rattle.std.specs.Prelude.{◌≡◌, ◌<◌, ◌≤◌, length, drop, Ok};
-ghost use Rattle.tree.specs.Tree.{size};
 ghost use Rattle.model.specs.Plain.{first_place};
 ghost use Rattle.model.specs.Rows.{longest_pattern};
-ghost use Rattle.book.specs.Records.{tree_at};
-ghost use Rattle.ask.specs.Reading.{bytes_at, Readable};
+ghost use Rattle.book.specs.Reader.{bytes_at};
 
 use super::fill::fill;
-use super::seek::seek;
-use book::Node;
+use book::Reader;
+use memchr::memmem::Finder;
 use shelf::{CopyFault, Shelf};
 
 // How many bytes are searched at a time.
@@ -16,28 +14,27 @@ const WINDOW: usize = 4096;
 // The first place at or after `from` where the pattern stands in the bytes of the tree at a slot.
 // The bytes are read through a window. Two neighbouring windows share one byte less than the pattern has, so that it stands whole in one of them.
 pub(crate) fn stream<S: Shelf>(
-    nodes: &[Node],
-    shelf: &S,
+    reader: &Reader<S>,
     slot: u16,
     from: usize,
     pattern: &[u8],
 ) -> Result<Option<usize>, CopyFault>
-    requires readable { Readable (S.texts shelf.now) nodes.now slot }
+    requires used { slot < length reader.now.nodes.now }
     requires some { 0 < length pattern.now }
     requires short { length pattern.now ≤ longest_pattern }
-    requires inside { from ≤ size (tree_at nodes.now slot) }
-    ensures { result ≡ Ok (first_place pattern.now from (drop from (bytes_at (S.texts shelf.now) nodes.now slot))) }
+    ensures { result ≡ Ok (first_place pattern.now from (drop from (bytes_at (S.texts reader.now.shelf.now) reader.now.nodes.now slot))) }
 {
-    let end = nodes[slot as usize].len as usize;
+    let finder = Finder::new(pattern);
+    let end = reader.nodes[slot as usize].len as usize;
+    // The pattern has room at the places before `stop` alone.
+    let stop = (end + 1).saturating_sub(pattern.len());
     let mut window = [0; WINDOW];
-    let mut at = from;
-    while pattern.len() <= end - at {
+    for at in (from..stop).step_by(WINDOW + 1 - pattern.len()) {
         let n = WINDOW.min(end - at);
-        fill(nodes, shelf, slot, at, &mut window[0..n])?;
-        if let Some(place) = seek(&window[0..n], pattern) {
+        fill(reader, slot, at, &mut window[0..n])?;
+        if let Some(place) = finder.find(&window[0..n]) {
             return Ok(Some(at + place));
         }
-        at += n - pattern.len() + 1;
     }
     Ok(None)
 }

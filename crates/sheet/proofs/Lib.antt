@@ -1,7 +1,5 @@
 pub mod Told
-pub mod Slots
+pub mod Blocks
 pub mod Settled
-pub mod Steps
 pub mod Filling
 pub mod Stretches
-pub mod Summing

@@ -17,6 +17,7 @@ pub enum SheetFault {
 }
 
 impl SheetFault {
+    // The numbers are this enum's own: a trait of all faults, or a `From`, would leave the same match.
     pub fn row(&self) -> Row
         ensures { result ≡ sheet_row self.now }
     {

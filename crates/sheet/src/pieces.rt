@@ -6,7 +6,7 @@ use rule::{Rule, value_of};
 use shelf::{CopyFault, Shelf};
 
 // How many bytes are copied from a text at a time.
-const BLOCK: usize = 4_096;
+const BLOCK: usize = 4096;
 
 // The value of the bytes that fill the block, from place `from` of text k on.
 fn block_value<R: Rule, S: Shelf>(
@@ -34,12 +34,10 @@ pub(crate) fn piece_value<R: Rule, S: Shelf>(
 {
     let mut block = [0u8; BLOCK];
     let mut value = R::empty();
-    let mut done = 0;
-    while done < len {
-        let count = (len - done).min(BLOCK);
+    for done in (0..len).step_by(BLOCK) {
+        let count = BLOCK.min(len - done);
         let more = block_value::<R, S>(shelf, k, from + done, &mut block[0..count])?;
         value = R::join(value, more);
-        done += count;
     }
     Ok(value)
 }

@@ -10,7 +10,7 @@ ghost use Rattle.sheet.specs.View.{sheet_view};
 
 use super::Sheet;
 use crate::fault::SheetFault;
-use crate::roots::{covers_root, root_len, root_value};
+use crate::roots::{covers_root, root_value};
 use crate::values::fill_values;
 use book::{Book, BookFault};
 use rule::Rule;
@@ -32,16 +32,13 @@ impl<'a, R: Rule> Sheet<'a, R> {
             ≡ (answer SheetTold.added result, sheet_view self.new) }
     {
         let Sheet { values, covered } = self;
-        let nodes = book.settled();
-        let count = nodes.len();
+        let count = book.settled().len();
         if values.len() < count {
             return Err(SheetFault::TooShort);
         }
-        if !book.has_texts(shelf) {
-            return Err(SheetFault::Book(BookFault::OtherTexts));
-        }
+        let reader = book.reader(shelf)?;
         let from = *covered;
-        fill_values::<R, S>(values, nodes, shelf, from)?;
+        fill_values::<R, S>(values, &reader, from)?;
         *covered = from.max(count);
         Ok(count.saturating_sub(from))
     }
@@ -61,17 +58,14 @@ impl<'a, R: Rule> Sheet<'a, R> {
     {
         let Sheet { values, covered } = self;
         let root = book.root(version)?;
-        let nodes = book.settled();
         // A sum that is too large for its type is past the end too.
-        if from.saturating_add(len) > root_len(nodes, root) {
+        if from.saturating_add(len) > book.length(version)? {
             return Err(SheetFault::Book(BookFault::PastEnd));
         }
         if !covers_root(*covered, root) {
             return Err(SheetFault::Uncovered);
         }
-        if !book.has_texts(shelf) {
-            return Err(SheetFault::Book(BookFault::OtherTexts));
-        }
-        Ok(root_value::<R, S>(values, nodes, shelf, root, from, len)?)
+        let reader = book.reader(shelf)?;
+        Ok(root_value::<R, S>(values, &reader, root, from, len)?)
     }
 }
