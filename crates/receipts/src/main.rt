@@ -4,26 +4,39 @@
 use ask::{read, shape};
 use book::{Book, BookFault, Draft, Kept, Node, open_book};
 use shelf::Held;
+use std::fmt;
 use std::io::Write;
 
 const TEXT: &[u8] = b"the door is open\nshut";
 
 // Why the edits stopped. A refused edit or keep hands the receipt back, which is still to be ended.
-enum Stopped {
-    Opening(BookFault),
-    Editing(Draft, BookFault),
+struct Stopped {
+    fault: BookFault,
+    draft: Option<Draft>,
 }
 
 impl From<BookFault> for Stopped {
     fn from(fault: BookFault) -> Stopped {
-        Stopped::Opening(fault)
+        Stopped { fault, draft: None }
     }
 }
 
 impl From<(Draft, BookFault)> for Stopped {
-    fn from(refused: (Draft, BookFault)) -> Stopped {
-        let (draft, fault) = refused;
-        Stopped::Editing(draft, fault)
+    fn from((draft, fault): (Draft, BookFault)) -> Stopped {
+        Stopped {
+            fault,
+            draft: Some(draft),
+        }
+    }
+}
+
+// A fault, printed by the number and the layer of its row.
+#[derive(Clone, Copy)]
+struct Refusal(BookFault);
+
+impl fmt::Display for Refusal {
+    fn fmt<W: fmt::Write>(&self, f: &mut fmt::Formatter<W>) -> fmt::Result {
+        write!(f, "fault {}", self.0.row())
     }
 }
 
@@ -69,37 +82,26 @@ fn shorten(book: &mut Book, version: usize, len: usize) -> Result<Kept, Stopped>
 }
 
 // Ends the receipt that was handed back, and tells the fault.
-fn give_up(book: &mut Book, stopped: Stopped) -> BookFault {
-    match stopped {
-        Stopped::Opening(fault) => fault,
-        Stopped::Editing(draft, fault) => {
-            let _ = draft.toss(book);
-            fault
-        }
+fn give_up(book: &mut Book, stopped: Stopped) -> Refusal {
+    let Stopped { fault, draft } = stopped;
+    if let Some(draft) = draft {
+        let _ = draft.toss(book);
     }
-}
-
-fn print_fault(rt: &HostRuntime, fault: BookFault) -> anyhow::Result<()> {
-    let row = fault.row();
-    let number = row.number;
-    let layer = row.layer.word();
-    println!(rt; "fault {number} {layer}")?;
-    Ok(())
+    Refusal(fault)
 }
 
 // Prints the number of a kept version, the slots made for it, and its bytes.
 fn print_kept(rt: &HostRuntime, book: &Book, shelf: &Held, kept: Kept) -> anyhow::Result<()> {
-    let version = kept.version;
-    let made = kept.made;
+    let Kept { version, made } = kept;
     println!(rt; "kept {version} made {made}")?;
     let len = match shape(book, version) {
         Ok(dimensions) => dimensions.len,
-        Err(fault) => return print_fault(rt, fault),
+        Err(fault) => return Ok(rt.println(Refusal(fault))?),
     };
     let mut bytes = vec![in rt.alloc(); 0u8; len]?;
     match read(book, shelf, version, 0, bytes.as_mut_slice()) {
         Ok(()) => rt.stdout().write_all(bytes.as_slice())?,
-        Err(fault) => print_fault(rt, fault)?,
+        Err(fault) => rt.println(Refusal(fault))?,
     }
     Ok(())
 }
@@ -110,11 +112,15 @@ fn print_answers(
     shelf: &Held,
     answers: Answers,
 ) -> anyhow::Result<()> {
-    print_kept(rt, book, shelf, answers.opened)?;
-    let cut = answers.cut;
-    let put = answers.put;
+    let Answers {
+        opened,
+        cut,
+        put,
+        shut,
+    } = answers;
+    print_kept(rt, book, shelf, opened)?;
     println!(rt; "cut made {cut}, put made {put}")?;
-    print_kept(rt, book, shelf, answers.shut)
+    print_kept(rt, book, shelf, shut)
 }
 
 // Prints a version that was kept, or the fault that the edits stopped at.
@@ -126,7 +132,7 @@ fn print_result(
 ) -> anyhow::Result<()> {
     match res {
         Ok(kept) => print_kept(rt, book, shelf, kept),
-        Err(stopped) => print_fault(rt, give_up(book, stopped)),
+        Err(stopped) => Ok(rt.println(give_up(book, stopped))?),
     }
 }
 
@@ -136,7 +142,7 @@ fn run(rt: &HostRuntime) -> anyhow::Result<()> {
     let mut book = open_book(&mut nodes, &shelf);
     match write(&mut book) {
         Ok(answers) => print_answers(rt, &book, &shelf, answers)?,
-        Err(stopped) => print_fault(rt, give_up(&mut book, stopped))?,
+        Err(stopped) => rt.println(give_up(&mut book, stopped))?,
     }
     let both = append(&mut book, 1, 2);
     print_result(rt, &mut book, &shelf, both)?;

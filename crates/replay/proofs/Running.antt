@@ -1,6 +1,6 @@
 -- A list of calls, one call longer.
-use Rattle.std.proofs.Common.{◌≡◌, ℕ, ◌+◌, ◌<◌, ◌≤◌, List, [], ◌∷◌, ◌++◌, map, length, get_or, take, sym, refl, ap, ◌∙◌, subst}
-use Rattle.std.proofs.lemmas.List.{take_more, take_all, map_push}
+use Rattle.std.proofs.Common.{◌≡◌, ℕ, ◌+◌, ◌<◌, List, [], ◌∷◌, ◌++◌, map, length, get_or, take, sym, ap, ◌∙◌}
+use Rattle.std.proofs.lemmas.List.{take_more, map_push}
 use Rattle.model.specs.Answers.{Answer, Told}
 use Rattle.model.specs.Book.{Book}
 use Rattle.model.specs.Runs.{State, step}
@@ -14,7 +14,7 @@ use Rattle.replay.specs.Handed.{Handed, run_handed}
 use Rattle.replay.specs.Replays.{state, handed, Performs, Runs}
 use Rattle.replay.proofs.Handing.{run_more}
 
--- the same for one of the two sheets
+-- one call more, told for one of the two sheets
 told_more : {V A : Type 0} (rule : Rule V) (tell : A → Answer (Told V)) (give : Call → Handed) (s s₁ s₂ : State V) (calls : List Call) (call : Call) (answers : List A) (a : A) →
     run_handed rule s (map give calls) ≡ (map tell answers, s₁) → step (give call).texts rule s₁ (give call).call ≡ (tell a, s₂) →
     run_handed rule s (map give (calls ++ call ∷ [])) ≡ (map tell (answers ++ a ∷ []), s₂)
@@ -23,30 +23,13 @@ told_more {V} rule tell give s s₁ s₂ calls call answers a before one =
     ∙ run_more rule s s₁ s₂ (map give calls) (map tell answers) (give call) (tell a) before one
     ∙ ap (λ (x : List (Answer (Told V))). (x, s₂)) (sym (map_push tell answers a))
 
+-- a run of a list of calls, one call more
 module _ {P Q : Type 0} (patterns : List ℕ) (texts : Which → List (List ℕ)) (p : Rule P) (q : Rule Q) where
-  pub runs_none : (b : Book) (s : Sheet P) (t : Sheet Q) → Runs patterns texts p q b b s s t t [] []
-  runs_none b s t = record { first = refl; second = refl }
-
-  pub runs_more : (b b₁ b₂ : Book) (s s₁ s₂ : Sheet P) (t t₁ t₂ : Sheet Q) (calls : List Call) (i : ℕ) (d : Call) (answers : List (code.Answer P Q)) (a : code.Answer P Q) →
-      i < length calls → Runs patterns texts p q b b₁ s s₁ t t₁ (take i calls) answers →
-      Performs patterns texts p q b₁ b₂ s₁ s₂ t₁ t₂ (get_or calls i d) a →
-      Runs patterns texts p q b b₂ s s₂ t t₂ (take (i + 1) calls) (answers ++ a ∷ [])
-  runs_more b b₁ b₂ s s₁ s₂ t t₁ t₂ calls i d answers a h before one = rw (take_more calls i d h) (record {
-    first = told_more p first_answer (handed patterns texts First) (state b s) (state b₁ s₁) (state b₂ s₂) (take i calls) (get_or calls i d) answers a before.first one.first;
-    second = told_more q second_answer (handed patterns texts Second) (state b t) (state b₁ t₁) (state b₂ t₂) (take i calls) (get_or calls i d) answers a before.second one.second;
-  })
-
-  -- the same at the start, in the middle and at the end of a loop over the calls
-  pub loop_none : (b : Book) (s : Sheet P) (t : Sheet Q) (answers : List (code.Answer P Q)) → answers ≡ [] → Runs patterns texts p q b b s s t t [] answers
-  loop_none b s t answers e = rw e (runs_none b s t)
-
-  pub loop_more : (b b₁ b₂ : Book) (s s₁ s₂ : Sheet P) (t t₁ t₂ : Sheet Q) (calls : List Call) (i : ℕ) (d : Call) (answers now : List (code.Answer P Q)) (a : code.Answer P Q) →
+  pub runs_more : (b b₁ b₂ : Book) (s s₁ s₂ : Sheet P) (t t₁ t₂ : Sheet Q) (calls : List Call) (i : ℕ) (d : Call) (answers now : List (code.Answer P Q)) (a : code.Answer P Q) →
       i < length calls → Runs patterns texts p q b b₁ s s₁ t t₁ (take i calls) answers →
       Performs patterns texts p q b₁ b₂ s₁ s₂ t₁ t₂ (get_or calls i d) a → now ≡ answers ++ a ∷ [] →
       Runs patterns texts p q b b₂ s s₂ t t₂ (take (i + 1) calls) now
-  loop_more b b₁ b₂ s s₁ s₂ t t₁ t₂ calls i d answers now a h before one e =
-      rw e (runs_more b b₁ b₂ s s₁ s₂ t t₁ t₂ calls i d answers a h before one)
-
-  pub loop_all : (b b₁ : Book) (s s₁ : Sheet P) (t t₁ : Sheet Q) (calls : List Call) (i : ℕ) (answers : List (code.Answer P Q)) → length calls ≤ i →
-      Runs patterns texts p q b b₁ s s₁ t t₁ (take i calls) answers → Runs patterns texts p q b b₁ s s₁ t t₁ calls answers
-  loop_all b b₁ s s₁ t t₁ calls i answers h r = subst (λ (x : List Call). Runs patterns texts p q b b₁ s s₁ t t₁ x answers) (take_all i calls h) r
+  runs_more b b₁ b₂ s s₁ s₂ t t₁ t₂ calls i d answers now a h before one e = rw (e, take_more calls i d h) (record {
+    first = told_more p first_answer (handed patterns texts First) (state b s) (state b₁ s₁) (state b₂ s₂) (take i calls) (get_or calls i d) answers a before.first one.first;
+    second = told_more q second_answer (handed patterns texts Second) (state b t) (state b₁ t₁) (state b₂ t₂) (take i calls) (get_or calls i d) answers a before.second one.second;
+  })

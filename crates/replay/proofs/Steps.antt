@@ -1,12 +1,13 @@
 -- A call on the book, told for a sheet.
-use Rattle.std.proofs.Common.{◌≡◌, ℕ, List, sym, ap, subst}
+use Rattle.std.proofs.Common.{◌≡◌, ℕ, List, Result, sym, ap, subst}
 use Rattle.model.specs.Answers.{Answer, by_book, BookTold}
 use Rattle.model.specs.Book.{Book, book_step}
 use Rattle.model.specs.Calls.{BookCall, on_book}
 use Rattle.model.specs.Runs.{step, mapped_answer}
 use Rattle.model.specs.Sheet.{Rule, Sheet}
+use Rattle.book.specs.declared.fault.BookFault.{BookFault}
 use Rattle.replay.specs.declared.call.Answer as code
-use Rattle.replay.specs.declared.call.BookAnswer.{BookAnswer}
+use Rattle.replay.specs.declared.call.BookTold as books
 use Rattle.replay.specs.declared.call.Call.{Call}
 use Rattle.replay.specs.declared.call.Change.{Change}
 use Rattle.replay.specs.declared.call.Which.{Which}
@@ -21,7 +22,7 @@ on_book_step texts rule b b' s call answer e =
 
 -- a call that may change the book leaves both sheets
 pub by_change : {P Q : Type 0} (patterns : List ℕ) (texts : Which → List (List ℕ)) (p : Rule P) (q : Rule Q) (b b' : Book) (s : Sheet P) (t : Sheet Q)
-    (call : Call) (change : Change) (answer : BookAnswer) → call ≡ Call.Book change → book_step (texts First) b (change_call change) ≡ (book_answer answer, b') →
+    (call : Call) (change : Change) (answer : Result books.BookTold BookFault) → call ≡ Call.Book change → book_step (texts First) b (change_call change) ≡ (book_answer answer, b') →
     Performs patterns texts p q b b' s s t t call (code.Answer.Book answer)
 by_change patterns texts p q b b' s t call change answer e f =
     subst (λ (x : Call). Performs patterns texts p q b b' s s t t x (code.Answer.Book answer)) (sym e) (record {

@@ -1,20 +1,22 @@
 -- What the calls and answers of the code stand for among those of the machine.
-use Rattle.std.specs.Prelude.{ℕ, List, vec_items}
+use Rattle.std.specs.Prelude.{ℕ, List, vec_items, Result}
 use Rattle.shelf.specs.Texts.{stretch}
 use Rattle.model.specs.Calls.{Edit, BookCall, open_version, edit}
 use Rattle.model.specs.Calls as calls
-use Rattle.model.specs.Answers.{Answer, refused, accepted, BookTold}
+use Rattle.model.specs.Answers.{Answer, accepted, BookTold}
 use Rattle.model.specs.Answers.{SheetTold, Told, by_book, by_sheet}
 use Rattle.model.specs.Runs.{mapped_answer}
 use Rattle.ask.specs.Told.{shape_told}
-use Rattle.book.specs.Faults.{number}
-use Rattle.sheet.specs.Faults.{sheet_row}
+use Rattle.book.specs.Faults as book
+use Rattle.book.specs.declared.fault.BookFault.{BookFault}
+use Rattle.sheet.specs.Faults as sheet
+use Rattle.sheet.specs.declared.fault.SheetFault.{SheetFault}
 use Rattle.replay.specs.declared.call.Answer as code
 use Rattle.replay.specs.declared.call.Call.{Call}
-use Rattle.replay.specs.declared.call.SheetAnswer.{SheetAnswer}
+use Rattle.replay.specs.declared.call.BookTold as books
+use Rattle.replay.specs.declared.call.SheetTold as sheets
 use Rattle.replay.specs.declared.call.Which.{Which}
 use Rattle.replay.specs.declared.call.Which.TheVariants.{First, Second}
-use Rattle.replay.specs.declared.call.BookAnswer.{BookAnswer}
 use Rattle.replay.specs.declared.call.Change.{Change}
 use Rattle.replay.specs.declared.call.Question.{Question}
 use Rattle.replay.specs.declared.call.SheetCall.{SheetCall}
@@ -38,20 +40,24 @@ abbrev pub sheet_call : (shown : List ℕ) → SheetCall → calls.SheetCall
 sheet_call shown SheetCall.BringUp = calls.bring_up shown
 sheet_call shown (SheetCall.Summary version from len) = calls.summary version from len shown
 
-abbrev pub book_answer : BookAnswer → Answer BookTold
-book_answer (BookAnswer.Refused fault) = refused (number fault)
-book_answer BookAnswer.Opened = accepted BookTold.opened
-book_answer (BookAnswer.Edited made) = accepted (BookTold.edited made)
-book_answer (BookAnswer.Kept kept) = accepted (BookTold.kept kept.version kept.made)
-book_answer BookAnswer.Tossed = accepted BookTold.tossed
-book_answer (BookAnswer.Bytes bytes) = accepted (BookTold.bytes (vec_items bytes))
-book_answer (BookAnswer.Found place) = accepted (BookTold.found place)
-book_answer (BookAnswer.Shaped shape) = accepted (shape_told shape)
+abbrev pub book_told : books.BookTold → BookTold
+book_told books.BookTold.Opened = BookTold.opened
+book_told (books.BookTold.Edited made) = BookTold.edited made
+book_told (books.BookTold.Kept kept) = BookTold.kept kept.version kept.made
+book_told books.BookTold.Tossed = BookTold.tossed
+book_told (books.BookTold.Bytes bytes) = BookTold.bytes (vec_items bytes)
+book_told (books.BookTold.Found place) = BookTold.found place
+book_told (books.BookTold.Shaped shape) = shape_told shape
 
-abbrev pub sheet_answer : {V : Type 0} → SheetAnswer V → Answer (SheetTold V)
-sheet_answer (SheetAnswer.Refused fault) = refused (sheet_row fault).number
-sheet_answer (SheetAnswer.Added slots) = accepted (SheetTold.added slots)
-sheet_answer (SheetAnswer.Value x) = accepted (SheetTold.value x)
+abbrev pub sheet_told : {V : Type 0} → sheets.SheetTold V → SheetTold V
+sheet_told (sheets.SheetTold.Added slots) = SheetTold.added slots
+sheet_told (sheets.SheetTold.Value x) = SheetTold.value x
+
+abbrev pub book_answer : Result books.BookTold BookFault → Answer BookTold
+book_answer res = book.answer book_told res
+
+abbrev pub sheet_answer : {V : Type 0} → Result (sheets.SheetTold V) SheetFault → Answer (SheetTold V)
+sheet_answer res = sheet.answer sheet_told res
 
 -- A run is told once for each of the two sheets, for they serve two rules: `mine` is the sheet that it is told for.
 

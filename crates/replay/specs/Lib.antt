@@ -1,3 +1,4 @@
+pub mod OneOf
 pub mod Handed
 pub mod Calls
 pub mod Replays

@@ -9,7 +9,7 @@ pub enum Which {
     Second,
 }
 
-// A call that may change the book. It is handed no shelf.
+// A call that may change the book. It is handed no shelf. The edits stand beside open, keep and toss, as one list holds them all.
 #[derive(Clone, Copy)]
 pub enum Change {
     Open {
@@ -83,10 +83,9 @@ pub enum Call {
     },
 }
 
-// What the book answers.
+// What the book tells where it accepts a call.
 #[derive(Drop)]
-pub enum BookAnswer {
-    Refused(BookFault),
+pub enum BookTold {
     Opened,
     Edited(usize),
     Kept(Kept),
@@ -96,10 +95,9 @@ pub enum BookAnswer {
     Shaped(Dimensions),
 }
 
-// What a sheet answers that has values of type V.
+// What a sheet that has values of type V tells where it accepts a call.
 #[derive(Clone, Copy)]
-pub enum SheetAnswer<V: Copy> {
-    Refused(SheetFault),
+pub enum SheetTold<V: Copy> {
     Added(usize),
     Value(V),
 }
@@ -107,7 +105,7 @@ pub enum SheetAnswer<V: Copy> {
 // What a call answers: the book, or one of its two sheets.
 #[derive(Drop)]
 pub enum Answer<P: Copy, Q: Copy> {
-    Book(BookAnswer),
-    First(SheetAnswer<P>),
-    Second(SheetAnswer<Q>),
+    Book(Result<BookTold, BookFault>),
+    First(Result<SheetTold<P>, SheetFault>),
+    Second(Result<SheetTold<Q>, SheetFault>),
 }

@@ -4,11 +4,14 @@
 
 mod call;
 mod change;
+mod inputs;
+mod one_of;
 mod performing;
 mod question;
 mod replaying;
 mod sheets;
 
-pub use call::{Answer, BookAnswer, Call, Change, Question, SheetAnswer, SheetCall, Which};
+pub use call::{Answer, BookTold, Call, Change, Question, SheetCall, SheetTold, Which};
+pub use inputs::Inputs;
 pub use performing::perform;
 pub use replaying::{replay, replay_on};

@@ -5,7 +5,7 @@ ghost use Rattle.model.specs.Calls as calls;
 ghost use Rattle.book.specs.Whole.{view};
 ghost use Rattle.replay.specs.Calls.{question_call, book_answer};
 
-use crate::call::{BookAnswer, Question};
+use crate::call::{BookTold, Question};
 use ask::{find, read, shape};
 use book::{Book, BookFault};
 use shelf::Shelf;
@@ -19,31 +19,27 @@ fn read_bytes<S: Shelf>(
     version: usize,
     from: usize,
     len: usize,
-) -> Result<BookAnswer, AllocError>
+) -> Result<Result<BookTold, BookFault>, AllocError>
     ensures { IfOk result (λ a. book_step (S.texts shelf.now) (view book.now)
         (calls.read version from len (map length (S.texts shelf.now))) ≡ (book_answer a, view book.now)) }
 {
+    // A match, since `?` here passes on want of memory alone: a fault is an answer.
     match shape(book, version) {
-        Err(fault) => return Ok(BookAnswer::Refused(fault)),
-        Ok(dimensions) if len > dimensions.len => return Ok(BookAnswer::Refused(
-            BookFault::PastEnd,
-        )),
+        Err(fault) => return Ok(Err(fault)),
+        Ok(dimensions) if len > dimensions.len => return Ok(Err(BookFault::PastEnd)),
         Ok(_) => {}
     }
     let mut bytes = vec![in heap; 0u8; len]?;
-    match read(book, shelf, version, from, bytes.as_mut_slice()) {
-        Ok(()) => Ok(BookAnswer::Bytes(bytes)),
-        Err(fault) => Ok(BookAnswer::Refused(fault)),
-    }
+    let res = read(book, shelf, version, from, bytes.as_mut_slice());
+    Ok(res.and(Ok(BookTold::Bytes(bytes))))
 }
 
 // The stretch of `count` bytes from `start` on, as far as the bytes go.
 fn part(bytes: &[u8], start: usize, count: usize) -> &[u8]
     ensures { result.now ≡ stretch start count bytes.now }
 {
-    let start = start.min(bytes.len());
-    let count = count.min(bytes.len() - start);
-    &bytes[start..start + count]
+    let rest = bytes.get(start..).unwrap_or(b"");
+    rest.get(..count).unwrap_or(rest)
 }
 
 // Asks the book a question.
@@ -53,7 +49,7 @@ pub fn ask<S: Shelf>(
     shelf: &S,
     patterns: &[u8],
     question: Question,
-) -> Result<BookAnswer, AllocError>
+) -> Result<Result<BookTold, BookFault>, AllocError>
     ensures { IfOk result (λ a. book_step (S.texts shelf.now) (view book.now)
         (question_call patterns.now (map length (S.texts shelf.now)) question) ≡ (book_answer a, view book.now)) }
 {
@@ -64,13 +60,9 @@ pub fn ask<S: Shelf>(
             from,
             start,
             count,
-        } => match find(book, shelf, version, from, part(patterns, start, count)) {
-            Ok(place) => Ok(BookAnswer::Found(place)),
-            Err(fault) => Ok(BookAnswer::Refused(fault)),
-        },
-        Question::Shape { version } => match shape(book, version) {
-            Ok(dimensions) => Ok(BookAnswer::Shaped(dimensions)),
-            Err(fault) => Ok(BookAnswer::Refused(fault)),
-        },
+        } => Ok(find(book, shelf, version, from, part(patterns, start, count)).map(
+            BookTold::Found,
+        )),
+        Question::Shape { version } => Ok(shape(book, version).map(BookTold::Shaped)),
     }
 }

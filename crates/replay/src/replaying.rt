@@ -5,6 +5,7 @@ ghost use Rattle.sheet.specs.View.{sheet_view};
 ghost use Rattle.replay.specs.Replays.{pick, Runs, Replayed};
 
 use crate::call::{Answer, Call};
+use crate::inputs::Inputs;
 use crate::performing::perform;
 use book::{Book, Node, open_book};
 use rule::Rule;
@@ -18,28 +19,17 @@ pub fn replay_on<P: Rule, Q: Rule, S: Shelf, T: Shelf>(
     book: &mut Book,
     first_sheet: &mut Sheet<P>,
     second_sheet: &mut Sheet<Q>,
-    first: &S,
-    second: &T,
-    patterns: &[u8],
+    inputs: &Inputs<S, T>,
     calls: &[Call],
 ) -> Result<Vec<Answer<P::Value, Q::Value>>, AllocError>
-    ensures { IfOk result (λ answers. Runs patterns.now (pick (S.texts first.now) (T.texts second.now))
+    ensures { IfOk result (λ answers. Runs inputs.now.patterns.now (pick (S.texts inputs.now.first.now) (T.texts inputs.now.second.now))
         (rule_of P.value P.joined) (rule_of Q.value Q.joined)
         (view book.old) (view book.new) (sheet_view first_sheet.old) (sheet_view first_sheet.new)
         (sheet_view second_sheet.old) (sheet_view second_sheet.new) calls.now answers.items) }
 {
     let mut answers = Vec::new(heap);
     for call in calls {
-        let answer = perform::<P, Q, S, T>(
-            heap,
-            book,
-            first_sheet,
-            second_sheet,
-            first,
-            second,
-            patterns,
-            *call,
-        )?;
+        let answer = perform::<P, Q, S, T>(heap, book, first_sheet, second_sheet, inputs, *call)?;
         answers.push(answer)?;
     }
     Ok(answers)
@@ -51,16 +41,14 @@ pub fn replay<P: Rule, Q: Rule, S: Shelf, T: Shelf>(
     nodes: &mut [Node],
     first_values: &mut [P::Value],
     second_values: &mut [Q::Value],
-    first: &S,
-    second: &T,
-    patterns: &[u8],
+    inputs: &Inputs<S, T>,
     calls: &[Call],
 ) -> Result<Vec<Answer<P::Value, Q::Value>>, AllocError>
-    ensures { IfOk result (λ answers. Replayed patterns.now (pick (S.texts first.now) (T.texts second.now))
+    ensures { IfOk result (λ answers. Replayed inputs.now.patterns.now (pick (S.texts inputs.now.first.now) (T.texts inputs.now.second.now))
         (rule_of P.value P.joined) (rule_of Q.value Q.joined)
         (length nodes.old) first_values.old second_values.old calls.now answers.items) }
 {
-    let mut book = open_book(nodes, first);
+    let mut book = open_book(nodes, inputs.first);
     let mut first_sheet = Sheet::<P>::new(first_values);
     let mut second_sheet = Sheet::<Q>::new(second_values);
     replay_on::<P, Q, S, T>(
@@ -68,9 +56,7 @@ pub fn replay<P: Rule, Q: Rule, S: Shelf, T: Shelf>(
         &mut book,
         &mut first_sheet,
         &mut second_sheet,
-        first,
-        second,
-        patterns,
+        inputs,
         calls,
     )
 }

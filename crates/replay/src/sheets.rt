@@ -5,10 +5,10 @@ ghost use Rattle.sheet.specs.Reading.{rule_of};
 ghost use Rattle.sheet.specs.View.{sheet_view};
 ghost use Rattle.replay.specs.Calls.{sheet_call, sheet_answer};
 
-use crate::call::{SheetAnswer, SheetCall};
+use crate::call::{SheetCall, SheetTold};
 use book::Book;
 use rule::Rule;
-use sheet::Sheet;
+use sheet::{Sheet, SheetFault};
 use shelf::Shelf;
 
 // Makes a call on a sheet.
@@ -17,21 +17,15 @@ pub fn ask_sheet<R: Rule, S: Shelf>(
     book: &Book,
     shelf: &S,
     call: SheetCall,
-) -> SheetAnswer<R::Value>
+) -> Result<SheetTold<R::Value>, SheetFault>
     ensures { sheet_step (S.texts shelf.now) (rule_of R.value R.joined) (view book.now)
         (sheet_view sheet.old) (sheet_call (map length (S.texts shelf.now)) call)
         ≡ (sheet_answer result, sheet_view sheet.new) }
 {
-    match call {
-        SheetCall::BringUp => match sheet.bring_up(book, shelf) {
-            Ok(slots) => SheetAnswer::Added(slots),
-            Err(fault) => SheetAnswer::Refused(fault),
-        },
-        SheetCall::Summary { version, from, len } => match sheet.summary(
-            book, shelf, version, from, len,
-        ) {
-            Ok(value) => SheetAnswer::Value(value),
-            Err(fault) => SheetAnswer::Refused(fault),
-        },
-    }
+    Ok(match call {
+        SheetCall::BringUp => SheetTold::Added(sheet.bring_up(book, shelf)?),
+        SheetCall::Summary { version, from, len } => {
+            SheetTold::Value(sheet.summary(book, shelf, version, from, len)?)
+        }
+    })
 }

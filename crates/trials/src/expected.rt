@@ -1,64 +1,73 @@
-use crate::plain::{Plain, reaches_past, stretch};
+use crate::plain::{Plain, check_end, stretch};
 use ask::Dimensions;
 use book::BookFault;
-use replay::{BookAnswer, Question};
+use replay::{BookTold, Question};
 use rule::brackets::Unmatched;
 
 // The longest pattern.
 const LONGEST_PATTERN: usize = 256;
 
+// What is expected of a question that is accepted. The shape of a version is known by its length alone.
+#[derive(Clone, Copy)]
+enum Outcome<'a> {
+    Bytes(&'a [u8]),
+    Found(Option<usize>),
+    Long(usize),
+}
+
 // The first place at or after `from` where the pattern stands, by trying every place.
 fn first_place(bytes: &[u8], from: usize, pattern: &[u8]) -> Option<usize> {
-    for place in from..bytes.len() {
-        if *stretch(bytes, place, pattern.len()) == *pattern {
-            return Some(place);
-        }
-    }
-    None
+    (from..bytes.len()).find(|place| stretch(bytes, *place, pattern.len()) == pattern)
 }
 
 // The line ends of a string, counted one by one.
 pub fn line_ends(bytes: &[u8]) -> u32 {
-    let mut ends = 0u32;
-    for b in bytes {
-        if *b == b'\n' {
-            ends = ends.saturating_add(1);
-        }
-    }
-    ends
+    bytes
+        .iter()
+        .filter(|b| **b == b'\n')
+        .fold(0u32, |ends, _| ends.saturating_add(1))
 }
 
 // The brackets of a string without a partner, counted one by one.
 pub fn unmatched(bytes: &[u8]) -> Unmatched {
-    let mut closings = 0u32;
-    let mut openings = 0u32;
-    for b in bytes {
-        match *b {
-            b'(' => openings = openings.saturating_add(1),
-            b')' if openings > 0 => openings = openings.saturating_sub(1),
-            b')' => closings = closings.saturating_add(1),
-            _ => {}
-        }
+    bytes.iter().fold(Unmatched::default(), |seen, b| match *b {
+        b'(' => Unmatched {
+            openings: seen.openings.saturating_add(1),
+            ..seen
+        },
+        b')' if seen.openings > 0 => Unmatched {
+            openings: seen.openings.saturating_sub(1),
+            ..seen
+        },
+        b')' => Unmatched {
+            closings: seen.closings.saturating_add(1),
+            ..seen
+        },
+        _ => seen,
+    })
+}
+
+// Refuses a shelf that has not the book's texts.
+pub fn check_texts(same: bool) -> Result<(), BookFault> {
+    if same {
+        Ok(())
+    } else {
+        Err(BookFault::OtherTexts)
     }
-    Unmatched { closings, openings }
 }
 
 // The bytes that a read gives, or why it is refused.
-fn read(
-    plain: &Plain,
+fn read<'a>(
+    plain: &'a Plain,
     same: bool,
     version: usize,
     from: usize,
     len: usize,
-) -> Result<&[u8], BookFault> {
-    let bytes = plain.version(version).ok_or(BookFault::NotKept)?;
-    if reaches_past(bytes.len(), from, len) {
-        Err(BookFault::PastEnd)
-    } else if !same {
-        Err(BookFault::OtherTexts)
-    } else {
-        Ok(stretch(bytes, from, len))
-    }
+) -> Result<&'a [u8], BookFault> {
+    let bytes = plain.version(version)?;
+    check_end(bytes.len(), from, len)?;
+    check_texts(same)?;
+    Ok(stretch(bytes, from, len))
 }
 
 // The place that a find gives, or why it is refused.
@@ -69,15 +78,36 @@ fn find(
     from: usize,
     pattern: &[u8],
 ) -> Result<Option<usize>, BookFault> {
-    let bytes = plain.version(version).ok_or(BookFault::NotKept)?;
-    if from > bytes.len() {
-        Err(BookFault::PastEnd)
-    } else if pattern.is_empty() || pattern.len() > LONGEST_PATTERN {
-        Err(BookFault::BadPattern)
-    } else if !same {
-        Err(BookFault::OtherTexts)
-    } else {
-        Ok(first_place(bytes, from, pattern))
+    let bytes = plain.version(version)?;
+    check_end(bytes.len(), from, 0)?;
+    if pattern.is_empty() || pattern.len() > LONGEST_PATTERN {
+        return Err(BookFault::BadPattern);
+    }
+    check_texts(same)?;
+    Ok(first_place(bytes, from, pattern))
+}
+
+// What is expected of a question, or why it is refused.
+fn expected<'a>(
+    plain: &'a Plain,
+    same: bool,
+    question: Question,
+) -> Result<Outcome<'a>, BookFault> {
+    match question {
+        Question::Read { version, from, len } => {
+            let bytes = read(plain, same, version, from, len)?;
+            Ok(Outcome::Bytes(bytes))
+        }
+        Question::Find {
+            version,
+            from,
+            start,
+            count,
+        } => {
+            let pattern = stretch(plain.patterns(), start, count);
+            Ok(Outcome::Found(find(plain, same, version, from, pattern)?))
+        }
+        Question::Shape { version } => Ok(Outcome::Long(plain.version(version)?.len())),
     }
 }
 
@@ -94,36 +124,14 @@ fn fits(dimensions: Dimensions, len: usize) -> bool {
 pub fn question_agrees(
     plain: &Plain,
     same: bool,
-    patterns: &[u8],
     question: Question,
-    answer: &BookAnswer,
+    answer: &Result<BookTold, BookFault>,
 ) -> bool {
-    match question {
-        Question::Read { version, from, len } => match (
-            read(plain, same, version, from, len),
-            answer,
-        ) {
-            (Ok(bytes), BookAnswer::Bytes(given)) => *given.as_slice() == *bytes,
-            (Err(fault), BookAnswer::Refused(given)) => fault == *given,
-            _ => false,
-        },
-        Question::Find {
-            version,
-            from,
-            start,
-            count,
-        } => match (
-            find(plain, same, version, from, stretch(patterns, start, count)),
-            answer,
-        ) {
-            (Ok(place), BookAnswer::Found(given)) => place == *given,
-            (Err(fault), BookAnswer::Refused(given)) => fault == *given,
-            _ => false,
-        },
-        Question::Shape { version } => match (plain.version(version), answer) {
-            (Some(bytes), BookAnswer::Shaped(given)) => fits(*given, bytes.len()),
-            (None, BookAnswer::Refused(given)) => *given == BookFault::NotKept,
-            _ => false,
-        },
+    match (expected(plain, same, question), answer) {
+        (Err(fault), Err(given)) => fault == *given,
+        (Ok(Outcome::Bytes(bytes)), Ok(BookTold::Bytes(given))) => given.as_slice() == bytes,
+        (Ok(Outcome::Found(place)), Ok(BookTold::Found(given))) => place == *given,
+        (Ok(Outcome::Long(len)), Ok(BookTold::Shaped(given))) => fits(*given, len),
+        _ => false,
     }
 }

@@ -3,11 +3,13 @@
 // Makes calls from a seed on real books and their sheets, and compares each answer with plain strings kept beside them.
 // What counts is the number of differences, which is 0; the other numbers only say what was done.
 mod beside;
+mod cover;
 mod expected;
 mod limit;
 mod making;
 mod plain;
 mod random;
+mod slots;
 mod tally;
 mod trial;
 
@@ -17,20 +19,43 @@ use random::Random;
 use shelf::{Held, Pair, Ring};
 use std::alloc::{AllocError, Global};
 use tally::Tally;
-use trial::{Setup, run_trial};
+use trial::{Setup, Shelves, run_trial};
 
 // How often each kind of book is tried.
 const ROUNDS: usize = 5;
 
+// The kinds of books.
+const SETUPS: [Setup; 5] = [
+    Setup {
+        slots: 65_536,
+        values: 65_536,
+        calls: 2500,
+    },
+    Setup {
+        slots: 70_000,
+        values: 500,
+        calls: 1500,
+    },
+    Setup {
+        slots: 300,
+        values: 300,
+        calls: 600,
+    },
+    Setup {
+        slots: 40,
+        values: 10,
+        calls: 200,
+    },
+    Setup {
+        slots: 0,
+        values: 0,
+        calls: 50,
+    },
+];
+
 // Bytes of few kinds, so that patterns recur.
 fn some_bytes(heap: Global, random: &mut Random, len: usize) -> Result<Vec<u8>, AllocError> {
-    let letters = b"ab()\nab(c)";
-    let mut bytes = Vec::new(heap);
-    for _ in 0..len {
-        let k = random.below(10);
-        bytes.push(if k < 10 { letters[k] } else { b' ' })?;
-    }
-    Ok(bytes)
+    (0..len).map(|_| random.pick(b"ab()\nab(c)")).collect(heap)
 }
 
 // The bytes from `start` on, and then those before it.
@@ -54,54 +79,33 @@ fn run_two(
         Held::new(trace.as_slice()),
         Pair::new(Ring::new(memory.as_slice(), 31), Held::new(b"")),
     );
-    let alike = Pair::new(
+    let same = Pair::new(
         Pair::new(Held::new(trace.as_slice()), Held::new(around.as_slice())),
         Ring::new(b"", 3),
     );
     let other = Pair::new(Held::new(trace.as_slice()), Held::new(around.as_slice()));
-    let mut texts = Vec::new(heap);
-    texts.push(Vec::from_slice(heap, trace.as_slice())?)?;
-    texts.push(Vec::from_slice(heap, around.as_slice())?)?;
-    texts.push(Vec::new(heap))?;
-    run_trial(
-        heap,
-        setup,
-        texts.as_slice(),
-        &first,
-        &alike,
-        true,
-        random,
-        tally,
-    )?;
-    run_trial(
-        heap,
-        setup,
-        texts.as_slice(),
-        &first,
-        &other,
-        false,
-        random,
-        tally,
-    )
+    let texts = vec![in heap; trace.clone()?, around.clone()?, Vec::new(heap)]?;
+    let alike = Shelves {
+        first: &first,
+        second: &same,
+        texts: texts.as_slice(),
+        alike: true,
+    };
+    run_trial(heap, setup, &alike, random, tally)?;
+    let unlike = Shelves {
+        first: &first,
+        second: &other,
+        texts: texts.as_slice(),
+        alike: false,
+    };
+    run_trial(heap, setup, &unlike, random, tally)
 }
 
 fn run(rt: &HostRuntime) -> anyhow::Result<()> {
-    let setups: [(usize, usize, usize); 5] = [
-        (65_536, 65_536, 2500),
-        (70_000, 500, 1500),
-        (300, 300, 600),
-        (40, 10, 200),
-        (0, 0, 50),
-    ];
     let mut random = Random::new(20_261_118);
-    let mut tally = Tally::new();
+    let mut tally = Tally::new(rt.alloc())?;
     for _ in 0..ROUNDS {
-        for (slots, values, calls) in setups {
-            let setup = Setup {
-                slots,
-                values,
-                calls,
-            };
+        for setup in SETUPS {
             run_two(rt.alloc(), setup, &mut random, &mut tally)?;
         }
     }

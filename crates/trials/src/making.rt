@@ -1,13 +1,9 @@
 use crate::plain::Plain;
 use crate::random::Random;
-use book::MOST_VERSIONS;
 use replay::{Call, Change, Question, SheetCall, Which};
 
 // A draft that is longer is cropped next.
 const LONG: usize = 3000;
-
-// How many calls close a trial: a read of each version, a bring-up of each sheet, and a summary of each version by each.
-pub const CLOSING_CALLS: usize = MOST_VERSIONS + 2 + 2 * MOST_VERSIONS;
 
 // A version's number, now and then of one that is not kept.
 fn some_version(random: &mut Random, plain: &Plain) -> usize {
@@ -21,26 +17,18 @@ fn some_stretch(random: &mut Random, total: usize, most: usize) -> (usize, usize
     (from, len)
 }
 
-// One of two, the first three times out of four.
-fn either(random: &mut Random) -> Which {
-    if random.below(4) == 0 {
-        Which::Second
-    } else {
-        Which::First
-    }
+// A shelf, the first three times out of four.
+fn some_shelf(random: &mut Random) -> Which {
+    random.pick(&[Which::Second, Which::First, Which::First, Which::First])
 }
 
-fn piece(random: &mut Random, texts: &[Vec<u8>], place: usize) -> Change {
+fn piece(random: &mut Random, plain: &Plain, place: usize) -> Change {
     let text = match random.below(30) {
         0 => 2,
-        1 => random.about(texts.len()),
+        1 => random.about(plain.texts.len()),
         _ => random.below(2),
     };
-    let total = if text < texts.len() {
-        texts[text].len()
-    } else {
-        0
-    };
+    let total = plain.text(text).unwrap_or(b"").len();
     let (from, len) = some_stretch(random, total, 30);
     Change::PutPiece {
         place,
@@ -51,14 +39,14 @@ fn piece(random: &mut Random, texts: &[Vec<u8>], place: usize) -> Change {
 }
 
 // An edit of a draft of `total` bytes.
-fn edit(random: &mut Random, plain: &Plain, texts: &[Vec<u8>], total: usize) -> Change {
+fn edit(random: &mut Random, plain: &Plain, total: usize) -> Change {
     match random.below(16) {
         0..=3 => {
             let place = random.about(total);
-            piece(random, texts, place)
+            piece(random, plain, place)
         }
-        4..=5 => piece(random, texts, total),
-        6 => piece(random, texts, 0),
+        4..=5 => piece(random, plain, total),
+        6 => piece(random, plain, 0),
         7..=9 => Change::PutVersion {
             place: random.about(total),
             version: some_version(random, plain),
@@ -79,14 +67,14 @@ fn edit(random: &mut Random, plain: &Plain, texts: &[Vec<u8>], total: usize) -> 
     }
 }
 
-fn some_change(random: &mut Random, plain: &Plain, texts: &[Vec<u8>]) -> Change {
+fn some_change(random: &mut Random, plain: &Plain) -> Change {
     let total = match plain.open_draft() {
-        None if random.below(8) != 0 => {
+        Err(_) if random.below(8) != 0 => {
             let version = some_version(random, plain);
             return Change::Open { version };
         }
-        None => 0,
-        Some(draft) => draft.len(),
+        Err(_) => 0,
+        Ok(draft) => draft.len(),
     };
     if total > LONG {
         let from = random.below(LONG);
@@ -100,14 +88,13 @@ fn some_change(random: &mut Random, plain: &Plain, texts: &[Vec<u8>]) -> Change 
         5 => Change::Open {
             version: some_version(random, plain),
         },
-        _ => edit(random, plain, texts, total),
+        _ => edit(random, plain, total),
     }
 }
 
-// A question, with a pattern out of `patterns` bytes.
-fn some_question(random: &mut Random, plain: &Plain, patterns: usize) -> Question {
+fn some_question(random: &mut Random, plain: &Plain) -> Question {
     let version = some_version(random, plain);
-    let total = plain.version(version).unwrap_or(b"").len();
+    let total = plain.len(version);
     match random.below(5) {
         0 => Question::Shape { version },
         1..=2 => {
@@ -116,7 +103,7 @@ fn some_question(random: &mut Random, plain: &Plain, patterns: usize) -> Questio
         }
         _ => {
             let from = random.about(total);
-            let start = random.below(patterns);
+            let start = random.below(plain.patterns().len());
             let most = if random.below(10) == 0 { 400 } else { 6 };
             let count = random.about(most);
             Question::Find {
@@ -134,69 +121,63 @@ fn some_sheet_call(random: &mut Random, plain: &Plain) -> SheetCall {
         return SheetCall::BringUp;
     }
     let version = some_version(random, plain);
-    let total = plain.version(version).unwrap_or(b"").len();
+    let total = plain.len(version);
     let (from, len) = some_stretch(random, total, total);
     SheetCall::Summary { version, from, len }
 }
 
 // A call made from the next numbers, mostly one that the plain book accepts.
-pub fn some_call(random: &mut Random, plain: &Plain, texts: &[Vec<u8>], patterns: usize) -> Call {
+pub fn some_call(random: &mut Random, plain: &Plain) -> Call {
     match random.below(12) {
-        0..=7 => Call::Book(some_change(random, plain, texts)),
+        0..=7 => Call::Book(some_change(random, plain)),
         8..=9 => Call::Ask {
-            shelf: either(random),
-            question: some_question(random, plain, patterns),
+            shelf: some_shelf(random),
+            question: some_question(random, plain),
         },
         _ => Call::Sheet {
-            sheet: if random.below(2) == 0 {
-                Which::First
-            } else {
-                Which::Second
-            },
-            shelf: either(random),
+            sheet: random.pick(&[Which::First, Which::Second]),
+            shelf: some_shelf(random),
             call: some_sheet_call(random, plain),
         },
     }
 }
 
-// The number of a kept version, counting round where fewer are kept, and the length of its string.
-fn whole(plain: &Plain, k: usize) -> (usize, usize) {
-    let kept = plain.strings.len();
-    let version = if kept == 0 { 0 } else { k % kept };
-    (version, plain.version(version).unwrap_or(b"").len())
+// The number of a kept version, counting round where fewer are kept.
+fn kept(plain: &Plain, k: usize) -> usize {
+    k.checked_rem(plain.strings.len()).unwrap_or(0)
 }
 
-// Closing call k.
-pub fn closing_call(plain: &Plain, k: usize) -> Call {
-    if k < MOST_VERSIONS {
-        let (version, len) = whole(plain, k);
-        return Call::Ask {
-            shelf: Which::First,
-            question: Question::Read {
-                version,
-                from: 0,
-                len,
-            },
-        };
-    }
-    let rest = k - MOST_VERSIONS;
-    let call = if rest < 2 {
-        SheetCall::BringUp
-    } else {
-        let (version, len) = whole(plain, rest / 2 - 1);
-        SheetCall::Summary {
+// A read of the whole of a kept version.
+pub fn whole_read(plain: &Plain, k: usize) -> Call {
+    let version = kept(plain, k);
+    Call::Ask {
+        shelf: Which::First,
+        question: Question::Read {
             version,
             from: 0,
-            len,
-        }
-    };
-    Call::Sheet {
-        sheet: if rest % 2 == 0 {
-            Which::First
-        } else {
-            Which::Second
+            len: plain.len(version),
         },
+    }
+}
+
+// A call on a sheet that is handed the first shelf.
+pub fn on_sheet(sheet: Which, call: SheetCall) -> Call {
+    Call::Sheet {
+        sheet,
         shelf: Which::First,
         call,
     }
+}
+
+// A summary of the whole of a kept version.
+pub fn whole_summary(plain: &Plain, sheet: Which, k: usize) -> Call {
+    let version = kept(plain, k);
+    on_sheet(
+        sheet,
+        SheetCall::Summary {
+            version,
+            from: 0,
+            len: plain.len(version),
+        },
+    )
 }

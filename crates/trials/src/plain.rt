@@ -3,186 +3,195 @@ use replay::Change;
 use shelf::LIMIT;
 use std::alloc::{AllocError, Global};
 
-// The plain book: the strings of the versions, and that of the draft if one is open.
+// The plain book: the texts on its shelf, the strings of the versions, and that of the draft if one is open.
 #[derive(Drop)]
-pub struct Plain {
+pub struct Plain<'a> {
+    heap: Global,
+    pub texts: &'a [Vec<u8>],
     pub strings: Vec<Vec<u8>>,
     pub draft: Option<Vec<u8>>,
 }
 
+// The bytes of a draft, as three stretches in a row.
+#[derive(Clone, Copy)]
+pub struct Parts<'b> {
+    before: &'b [u8],
+    put: &'b [u8],
+    after: &'b [u8],
+}
+
+// What an accepted change leaves.
+#[derive(Clone, Copy)]
+pub enum Outcome<'b> {
+    Draft(Parts<'b>),
+    Kept,
+    Tossed,
+}
+
 // The stretch of `len` bytes from `from` on, as far as the bytes go.
+// `replay` has its own: the plain book takes no such function from the code that it is compared with.
 pub fn stretch(bytes: &[u8], from: usize, len: usize) -> &[u8] {
-    let from = from.min(bytes.len());
-    let len = len.min(bytes.len() - from);
-    &bytes[from..from + len]
+    let rest = bytes.get(from..).unwrap_or(b"");
+    rest.get(..len).unwrap_or(rest)
 }
 
-// Whether a stretch reaches past a string of `total` bytes.
-pub fn reaches_past(total: usize, from: usize, len: usize) -> bool {
-    from > total || len > total - from
+// Refuses a stretch that reaches past a string of `total` bytes.
+pub fn check_end(total: usize, from: usize, len: usize) -> Result<(), BookFault> {
+    match from.checked_add(len) {
+        Some(end) if end <= total => Ok(()),
+        _ => Err(BookFault::PastEnd),
+    }
 }
 
-// The bytes with `put` in place of the `dropped` ones at `from`.
-fn replaced(
-    heap: Global,
-    bytes: &[u8],
-    from: usize,
-    dropped: usize,
-    put: &[u8],
-) -> Result<Vec<u8>, AllocError> {
-    let mut all = Vec::from_slice(heap, stretch(bytes, 0, from))?;
-    all.extend_from_slice(put)?;
-    all.extend_from_slice(stretch(bytes, from.saturating_add(dropped), usize::MAX))?;
-    Ok(all)
+impl<'b> Parts<'b> {
+    fn whole(bytes: &'b [u8]) -> Parts<'b> {
+        Parts {
+            before: b"",
+            put: bytes,
+            after: b"",
+        }
+    }
+
+    // The draft with `put` in place of the `dropped` bytes at `from`.
+    fn replaced(draft: &'b [u8], from: usize, dropped: usize, put: &'b [u8]) -> Parts<'b> {
+        Parts {
+            before: stretch(draft, 0, from),
+            put,
+            after: stretch(draft, from.saturating_add(dropped), usize::MAX),
+        }
+    }
+
+    fn joined(self, heap: Global) -> Result<Vec<u8>, AllocError> {
+        let mut all = Vec::from_slice(heap, self.before)?;
+        all.extend_from_slice(self.put)?;
+        all.extend_from_slice(self.after)?;
+        Ok(all)
+    }
 }
 
-impl Plain {
+impl<'a> Plain<'a> {
     // Version 0 is empty.
-    pub fn new(heap: Global) -> Result<Plain, AllocError> {
-        let mut strings = Vec::new(heap);
-        strings.push(Vec::new(heap))?;
+    pub fn new(heap: Global, texts: &'a [Vec<u8>]) -> Result<Plain<'a>, AllocError> {
         Ok(Plain {
-            strings,
+            heap,
+            texts,
+            strings: vec![in heap; Vec::new(heap)]?,
             draft: None,
         })
     }
 
-    // The string of a version, or none where it is not kept.
-    pub fn version(&self, version: usize) -> Option<&[u8]> {
-        if version < self.strings.len() {
-            Some(self.strings[version].as_slice())
-        } else {
-            None
-        }
+    // The string of a version. Refuses one that is not kept.
+    pub fn version(&self, version: usize) -> Result<&[u8], BookFault> {
+        let string = self.strings.get(version).ok_or(BookFault::NotKept)?;
+        Ok(string.as_slice())
     }
 
-    // The string of the draft, or none where none is open.
-    pub fn open_draft(&self) -> Option<&[u8]> {
-        match &self.draft {
-            Some(bytes) => Some(bytes.as_slice()),
-            None => None,
-        }
+    // The length of a version, or 0 where it is not kept.
+    pub fn len(&self, version: usize) -> usize {
+        self.version(version).map_or(0, |string| string.len())
     }
 
-    // Why `len` bytes more cannot be put into the draft at a place.
-    fn put_refusal(&self, place: usize, len: usize) -> Option<BookFault> {
-        let Some(draft) = self.open_draft() else {
-            return Some(BookFault::NoDraft);
-        };
-        if place > draft.len() {
-            Some(BookFault::PastEnd)
-        } else if len > LIMIT.saturating_sub(draft.len()) {
-            Some(BookFault::TooLong)
-        } else {
-            None
-        }
+    // The string of the draft. Refuses where none is open.
+    pub fn open_draft(&self) -> Result<&[u8], BookFault> {
+        let string = self.draft.as_ref().ok_or(BookFault::NoDraft)?;
+        Ok(string.as_slice())
     }
 
-    // Why a piece of a text cannot be put into the draft at a place.
-    fn piece_refusal(
+    // The text of a number. Refuses a number that no text has.
+    pub fn text(&self, text: usize) -> Result<&'a [u8], BookFault> {
+        let bytes = self.texts.get(text).ok_or(BookFault::NoText)?;
+        Ok(bytes.as_slice())
+    }
+
+    // The bytes that patterns are taken from: those of the first text.
+    pub fn patterns(&self) -> &'a [u8] {
+        self.texts.first().map_or(b"", |text| text.as_slice())
+    }
+
+    // Puts bytes into the draft at a place.
+    fn put<'b>(&'b self, place: usize, bytes: &'b [u8]) -> Result<Outcome<'b>, BookFault> {
+        let draft = self.open_draft()?;
+        check_end(draft.len(), place, 0)?;
+        if bytes.len() > LIMIT.saturating_sub(draft.len()) {
+            return Err(BookFault::TooLong);
+        }
+        Ok(Outcome::Draft(Parts::replaced(draft, place, 0, bytes)))
+    }
+
+    // Puts a piece of a text into the draft at a place.
+    fn put_piece(
         &self,
-        texts: &[Vec<u8>],
         place: usize,
         text: usize,
         from: usize,
         len: usize,
-    ) -> Option<BookFault> {
-        let Some(draft) = self.open_draft() else {
-            return Some(BookFault::NoDraft);
-        };
-        if text >= texts.len() {
-            Some(BookFault::NoText)
-        } else if place > draft.len() || reaches_past(texts[text].len(), from, len) {
-            Some(BookFault::PastEnd)
-        } else if len == 0 {
-            Some(BookFault::EmptyPiece)
-        } else {
-            self.put_refusal(place, len)
+    ) -> Result<Outcome<'_>, BookFault> {
+        let draft = self.open_draft()?;
+        let bytes = self.text(text)?;
+        check_end(bytes.len(), from, len)?;
+        check_end(draft.len(), place, 0)?;
+        if len == 0 {
+            return Err(BookFault::EmptyPiece);
         }
+        self.put(place, stretch(bytes, from, len))
     }
 
-    // Why a stretch of the draft cannot be dropped or kept alone.
-    fn stretch_refusal(&self, from: usize, len: usize) -> Option<BookFault> {
-        match self.open_draft() {
-            None => Some(BookFault::NoDraft),
-            Some(draft) if reaches_past(draft.len(), from, len) => Some(BookFault::PastEnd),
-            Some(_) => None,
-        }
-    }
-
-    // The smallest row that refuses a change, row 12 left out.
-    pub fn refusal(&self, texts: &[Vec<u8>], change: Change) -> Option<BookFault> {
-        match change {
-            Change::Open { version } if version >= self.strings.len() => Some(BookFault::NotKept),
-            Change::Open { version: _ } if self.draft.is_some() => Some(BookFault::DraftOpen),
-            Change::Open { version: _ } => None,
-            Change::PutPiece {
-                place,
-                text,
-                from,
-                len,
-            } => self.piece_refusal(texts, place, text, from, len),
-            Change::PutVersion { place, version } => match self.version(version) {
-                None => Some(BookFault::NotKept),
-                Some(bytes) => self.put_refusal(place, bytes.len()),
-            },
-            Change::Cut { from, len } => self.stretch_refusal(from, len),
-            Change::Crop { from, len } => self.stretch_refusal(from, len),
-            Change::Keep if self.draft.is_none() => Some(BookFault::NoDraft),
-            Change::Keep if self.strings.len() >= MOST_VERSIONS => Some(BookFault::AllKept),
-            Change::Keep => None,
-            Change::Toss if self.draft.is_none() => Some(BookFault::NoDraft),
-            Change::Toss => None,
-        }
-    }
-
-    // The draft after an accepted edit.
-    fn edited(
-        &self,
-        heap: Global,
-        texts: &[Vec<u8>],
-        change: Change,
-    ) -> Result<Vec<u8>, AllocError> {
-        let draft = self.open_draft().unwrap_or(b"");
-        match change {
-            Change::PutPiece {
-                place,
-                text,
-                from,
-                len,
-            } if text < texts.len() => {
-                let piece = stretch(texts[text].as_slice(), from, len);
-                replaced(heap, draft, place, 0, piece)
-            }
-            Change::PutVersion { place, version } => {
-                replaced(heap, draft, place, 0, self.version(version).unwrap_or(b""))
-            }
-            Change::Cut { from, len } => replaced(heap, draft, from, len, b""),
-            Change::Crop { from, len } => Vec::from_slice(heap, stretch(draft, from, len)),
-            _ => Vec::from_slice(heap, draft),
-        }
-    }
-
-    // Makes an accepted change.
-    pub fn make(
-        &mut self,
-        heap: Global,
-        texts: &[Vec<u8>],
-        change: Change,
-    ) -> Result<(), AllocError> {
+    // What a change leaves, or the smallest row that it meets, row 12 left out.
+    pub fn outcome(&self, change: Change) -> Result<Outcome<'_>, BookFault> {
         match change {
             Change::Open { version } => {
-                let bytes = self.version(version).unwrap_or(b"");
-                self.draft = Some(Vec::from_slice(heap, bytes)?);
+                let string = self.version(version)?;
+                if self.draft.is_some() {
+                    return Err(BookFault::DraftOpen);
+                }
+                Ok(Outcome::Draft(Parts::whole(string)))
+            }
+            Change::PutPiece {
+                place,
+                text,
+                from,
+                len,
+            } => self.put_piece(place, text, from, len),
+            Change::PutVersion { place, version } => self.put(place, self.version(version)?),
+            Change::Cut { from, len } => {
+                let draft = self.open_draft()?;
+                check_end(draft.len(), from, len)?;
+                Ok(Outcome::Draft(Parts::replaced(draft, from, len, b"")))
+            }
+            Change::Crop { from, len } => {
+                let draft = self.open_draft()?;
+                check_end(draft.len(), from, len)?;
+                Ok(Outcome::Draft(Parts::whole(stretch(draft, from, len))))
             }
             Change::Keep => {
-                if let Some(bytes) = self.draft.take() {
-                    self.strings.push(bytes)?;
+                self.open_draft()?;
+                if self.strings.len() >= MOST_VERSIONS {
+                    return Err(BookFault::AllKept);
+                }
+                Ok(Outcome::Kept)
+            }
+            Change::Toss => {
+                self.open_draft()?;
+                Ok(Outcome::Tossed)
+            }
+        }
+    }
+
+    // Makes a change that is accepted, and says whether it is.
+    pub fn make(&mut self, change: Change) -> Result<bool, AllocError> {
+        match self.outcome(change) {
+            Err(_) => return Ok(false),
+            Ok(Outcome::Draft(parts)) => {
+                let draft = parts.joined(self.heap)?;
+                self.draft = Some(draft);
+            }
+            Ok(Outcome::Kept) => {
+                if let Some(string) = self.draft.take() {
+                    self.strings.push(string)?;
                 }
             }
-            Change::Toss => self.draft = None,
-            _ => self.draft = Some(self.edited(heap, texts, change)?),
+            Ok(Outcome::Tossed) => self.draft = None,
         }
-        Ok(())
+        Ok(true)
     }
 }

@@ -1,3 +1,5 @@
+ghost use Rattle.std.specs.Prelude.{◌<◌};
+
 // Numbers made from a seed, by shifts and exclusive ors.
 #[derive(Clone, Copy)]
 pub struct Random {
@@ -20,7 +22,9 @@ impl Random {
     }
 
     // A number below `n`, or 0 where n is 0.
-    pub fn below(&mut self, n: usize) -> usize {
+    pub fn below(&mut self, n: usize) -> usize
+        ensures { 0 < n → result < n }
+    {
         let x = (self.next().wrapping_shr(11) & 0xffff_ffff) as usize;
         if n == 0 { 0 } else { x % n }
     }
@@ -35,5 +39,12 @@ impl Random {
             4 => 0,
             _ => self.below(n.saturating_add(1)),
         }
+    }
+
+    // One of some values, each as often as it stands among them.
+    pub fn pick<T: Copy, const N: usize>(&mut self, values: &[T; N]) -> T
+        requires { 0 < N }
+    {
+        values[self.below(N)]
     }
 }

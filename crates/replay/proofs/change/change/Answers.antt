@@ -1,32 +1,32 @@
-use Rattle.replay.proofs.Calling.{made, made_as}
+use Rattle.replay.specs.Calls.{change_call}
+use Rattle.replay.specs.declared.call.BookTold.TheVariants.{Opened, Edited, Kept, Tossed}
+use Rattle.replay.proofs.Calling.{mapped, followed, called}
 use Rattle.replay.proofs.change.change.Goals as goal
 
-pub returns-in-Ok : goal.returns-in-Ok
-returns-in-Ok c texts = made texts _ _ c.in-Open.is _ (c.in-Ok.ensures texts)
-
-pub returns-in-Err : goal.returns-in-Err
-returns-in-Err c texts = made texts _ _ c.in-Open.is _ (c.in-Err.ensures texts)
+pub returns-in-Open : goal.returns-in-Open
+returns-in-Open c texts =
+    called texts _ _ change_call (λ _. Opened) _ _ c.in-Open.is (followed Opened _ _ c.and.ensures) (c.open.ensures texts)
 
 pub returns-in-PutPiece : goal.returns-in-PutPiece
-returns-in-PutPiece c texts = made_as texts _ _ c.in-PutPiece.is _ _ c.edited.ensures (c.put_piece.ensures texts)
+returns-in-PutPiece c texts =
+    called texts _ _ change_call Edited _ _ c.in-PutPiece.is (mapped Edited _ _ c.map.ensures.cases) (c.put_piece.ensures texts)
 
 pub returns-in-PutVersion : goal.returns-in-PutVersion
-returns-in-PutVersion c texts = made_as texts _ _ c.in-PutVersion.is _ _ c.edited-in-PutVersion.ensures (c.put_version.ensures texts)
+returns-in-PutVersion c texts =
+    called texts _ _ change_call Edited _ _ c.in-PutVersion.is (mapped Edited _ _ c.map-in-PutVersion.ensures.cases) (c.put_version.ensures texts)
 
 pub returns-in-Cut : goal.returns-in-Cut
-returns-in-Cut c texts = made_as texts _ _ c.in-Cut.is _ _ c.edited-in-Cut.ensures (c.cut.ensures texts)
+returns-in-Cut c texts =
+    called texts _ _ change_call Edited _ _ c.in-Cut.is (mapped Edited _ _ c.map-in-Cut.ensures.cases) (c.cut.ensures texts)
 
 pub returns-in-Crop : goal.returns-in-Crop
-returns-in-Crop c texts = made_as texts _ _ c.in-Crop.is _ _ c.edited-in-Crop.ensures (c.crop.ensures texts)
+returns-in-Crop c texts =
+    called texts _ _ change_call Edited _ _ c.in-Crop.is (mapped Edited _ _ c.map-in-Crop.ensures.cases) (c.crop.ensures texts)
 
-pub returns-in-Ok-keep : goal.returns-in-Ok-keep
-returns-in-Ok-keep c texts = made texts _ _ c.in-Keep.is _ (c.in-Ok-keep.ensures texts)
+pub returns-in-Keep : goal.returns-in-Keep
+returns-in-Keep c texts =
+    called texts _ _ change_call Kept _ _ c.in-Keep.is (mapped Kept _ _ c.map-in-Keep.ensures.cases) (c.keep.ensures texts)
 
-pub returns-in-Err-keep : goal.returns-in-Err-keep
-returns-in-Err-keep c texts = made texts _ _ c.in-Keep.is _ (c.in-Err-keep.ensures texts)
-
-pub returns-in-Ok-toss : goal.returns-in-Ok-toss
-returns-in-Ok-toss c texts = made texts _ _ c.in-Toss.is _ (c.in-Ok-toss.ensures texts)
-
-pub returns-in-Err-toss : goal.returns-in-Err-toss
-returns-in-Err-toss c texts = made texts _ _ c.in-Toss.is _ (c.in-Err-toss.ensures texts)
+pub returns-in-Toss : goal.returns-in-Toss
+returns-in-Toss c texts =
+    called texts _ _ change_call (λ _. Tossed) _ _ c.in-Toss.is (followed Tossed _ _ c.and-in-Toss.ensures) (c.toss.ensures texts)

@@ -1,17 +1,17 @@
-use Rattle.std.proofs.Common.{map, length, ap, ◌∙◌}
-use Rattle.model.specs.Book.{book_step}
-use Rattle.book.specs.Whole.{view}
+use Rattle.std.proofs.Common.{map, length}
 use Rattle.replay.specs.Calls.{question_call}
+use Rattle.replay.specs.declared.call.BookTold.TheVariants.{Found, Shaped}
+use Rattle.replay.proofs.Calling.{mapped, called}
 use Rattle.replay.proofs.question.ask.Goals as goal
 
-pub returns-in-Ok-shape : goal.returns-in-Ok-shape
-returns-in-Ok-shape g c =
+pub returns-in-Find : goal.returns-in-Find
+returns-in-Find g c =
     let texts = g.S.Shelf.texts c.args.shelf.now in
-    ap (λ q. book_step texts (view c.args.book.now) (question_call c.args.patterns.now (map length texts) q)) c.in-Shape.is
-    ∙ c.in-Ok-shape.ensures texts
+    called texts _ _ (question_call c.args.patterns.now (map length texts)) Found _ _ c.in-Find.is
+    (mapped Found _ _ c.map.ensures.cases) (rw c.part.ensures at c.find.ensures)
 
-pub returns-in-Err-shape : goal.returns-in-Err-shape
-returns-in-Err-shape g c =
+pub returns-in-Shape : goal.returns-in-Shape
+returns-in-Shape g c =
     let texts = g.S.Shelf.texts c.args.shelf.now in
-    ap (λ q. book_step texts (view c.args.book.now) (question_call c.args.patterns.now (map length texts) q)) c.in-Shape.is
-    ∙ c.in-Err-shape.ensures texts
+    called texts _ _ (question_call c.args.patterns.now (map length texts)) Shaped _ _ c.in-Shape.is
+    (mapped Shaped _ _ c.map-in-Shape.ensures.cases) (c.shape.ensures texts)

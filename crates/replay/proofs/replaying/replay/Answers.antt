@@ -8,8 +8,9 @@ use Rattle.replay.proofs.replaying.replay.Goals as goal
 
 pub returns : goal.returns
 returns g c =
-    let patterns = c.args.patterns.now in
-    let texts = pick (g.S.Shelf.texts c.args.first.now) (g.T.Shelf.texts c.args.second.now) in
+    let inputs = c.args.inputs.now in
+    let patterns = inputs.patterns.now in
+    let texts = pick (g.S.Shelf.texts inputs.first.now) (g.T.Shelf.texts inputs.second.now) in
     let p = rule_of g.P.Rule.value g.P.Rule.joined in
     let q = rule_of g.Q.Rule.value g.Q.Rule.joined in
     IfOk-weaker c.replay_on.result
