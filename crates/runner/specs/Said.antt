@@ -21,7 +21,7 @@ row_numbered n = record { number = n; layer = layer_of n }
 
 -- a line that prints an answer, of which the bytes that are shown are no part
 abbrev pub line_of : answer.Answer → List ℕ
-line_of answer = printed (said answer)
+line_of answer = printed (said (Ok answer))
 
 -- the changes print nothing, but keep does; what is shown has a line end behind it
 abbrev pub book_said : BookTold → List ℕ
@@ -33,13 +33,16 @@ book_said (BookTold.bytes bytes) = bytes ++ line_end ∷ []
 book_said (BookTold.found place) = line_of (answers.Found place)
 book_said (BookTold.shaped length height pieces) = line_of (answers.Shape length height pieces)
 
-abbrev pub lines_said : SheetTold ℕ → List ℕ
-lines_said (SheetTold.added slots) = []
-lines_said (SheetTold.value count) = line_of (answers.Lines count)
+-- of a sheet, by the answer that is printed for a value
+abbrev pub sheet_said : {V : Type 0} → (V → answer.Answer) → SheetTold V → List ℕ
+sheet_said answer_of (SheetTold.added slots) = []
+sheet_said answer_of (SheetTold.value v) = line_of (answer_of v)
 
-abbrev pub pairs_said : SheetTold Unmatched → List ℕ
-pairs_said (SheetTold.added slots) = []
-pairs_said (SheetTold.value u) = line_of (answers.Pairs u.closings u.openings)
+abbrev pub lines_answer : ℕ → answer.Answer
+lines_answer count = answers.Lines count
+
+abbrev pub pairs_answer : Unmatched → answer.Answer
+pairs_answer u = answers.Pairs u.closings u.openings
 
 -- the bytes that an answer prints, or the row that refuses
 abbrev pub outcome : {A : Type 0} → (A → List ℕ) → Answer A → Result (List ℕ) Row

@@ -11,12 +11,3 @@ pub record State : Type 0 where
   pub lines : Sheet ℕ
   pub pairs : Sheet Unmatched
   pub names : List Named
-
-abbrev pub with_book : State → Book → State
-with_book s book = record { book = book; lines = s.lines; pairs = s.pairs; names = s.names }
-
-abbrev pub with_lines : State → Sheet ℕ → State
-with_lines s lines = record { book = s.book; lines = lines; pairs = s.pairs; names = s.names }
-
-abbrev pub with_pairs : State → Sheet Unmatched → State
-with_pairs s pairs = record { book = s.book; lines = s.lines; pairs = pairs; names = s.names }

@@ -1,11 +1,10 @@
-ghost use Rattle.std.specs.Prelude.{◌≤◌, length};
-ghost use Rattle.script.specs.Bounds.{buffer_least};
 ghost use Rattle.runner.specs.Answering.{Answered};
+ghost use Rattle.runner.specs.Commands.{request_step};
 ghost use Rattle.runner.specs.Requests.{keep_as};
 ghost use Rattle.runner.specs.View.{runner_view};
 
+use super::output::Output;
 use super::runner::Runner;
-use super::telling::tell;
 use script::Answer;
 use sheet::SheetFault;
 use shelf::Shelf;
@@ -16,11 +15,10 @@ impl<'a> Runner<'a> {
         &mut self,
         shelf: &S,
         name: &[u8],
-        out: &mut [u8],
+        output: &mut Output,
     ) -> Result<usize, SheetFault>
-        requires { buffer_least ≤ length out.old }
-        ensures { Answered (S.texts shelf.now) (runner_view self.old) (runner_view self.new)
-            (keep_as name.now) result out.old out.new }
+        ensures { Answered (request_step (S.texts shelf.now) (runner_view self.old) (keep_as name.now))
+            (runner_view self.new) result output.old output.new }
     {
         let Runner {
             book,
@@ -33,12 +31,9 @@ impl<'a> Runner<'a> {
         // A sheet that refuses to be brought up says so when it is asked.
         let _ = lines.bring_up(book, shelf);
         let _ = pairs.bring_up(book, shelf);
-        Ok(tell(
-            out,
-            Answer::Kept {
-                version: kept.version,
-                made: kept.made,
-            },
-        ))
+        Ok(output.tell(Answer::Kept {
+            version: kept.version,
+            made: kept.made,
+        }))
     }
 }

@@ -3,8 +3,9 @@
 // Scripts run over a book: its lines are made as calls on a book and its two sheets, and what they answer is printed.
 
 mod keeping;
+mod output;
+mod printed;
 mod requests;
 mod runner;
-mod telling;
 
 pub use runner::Runner;

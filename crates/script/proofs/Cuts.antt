@@ -1,31 +1,44 @@
--- The lines of a script, one byte on.
-use Rattle.std.proofs.Common.{◌≡◌, ℕ, ◌+◌, ◌<◌, ◌≤◌, cond, List, [], ◌∷◌, length, get_or, drop, sym, refl, ap, ◌∙◌, arith}
-use Rattle.std.proofs.lemmas.List.{at_drop_more, at_drop_all}
+-- The first line of what is left of a script.
+use Rattle.std.proofs.Common.{◌≡◌, ℕ, ◌+◌, ◌<◌, ◌≤◌, cond, not, List, [], ◌∷◌, length, drop, sym, refl, ap, ◌∙◌, arith, length-drop}
+use Rattle.std.specs.List.{position_or_len}
+use Rattle.std.proofs.lemmas.List.{drop-drop}
 use Rattle.std.proofs.lemmas.Bool.{eq-eqb, ne_eqb}
 use Rattle.script.specs.declared.lines.Line.{Line}
-use Rattle.script.specs.Lines.{line_end, cut, lines_from}
+use Rattle.script.specs.Lines.{ends_line, cut, lines_from}
+use Rattle.script.proofs.Firsts.{bool_cases}
 
-module _ (script : List ℕ) (number start : ℕ) where
-  abbrev line : (end : ℕ) → Line
-  line end = record { number = number; start = start; end = end }
+abbrev line : (number start end : ℕ) → Line
+line number start end = record { number = number; start = start; end = end }
 
-  pub none_left : length script ≤ start → lines_from number start script ≡ []
-  none_left h = at_drop_all (cut number start start) script start h ∙ ap (λ b. cond b [] (line start ∷ [])) (eq-eqb start start refl)
+-- a line that has a byte or an end goes up to the first end
+cut_first : (number start place : ℕ) (bytes : List ℕ) → start ≤ place → start < place + length bytes →
+    (n : ℕ) → n ≡ position_or_len ends_line bytes →
+    cut number start place bytes ≡ line number start (place + n) ∷ cut (number + 1) (place + n + 1) (place + n + 1) (drop (n + 1) bytes)
+cut_first number start place [] h some n e =
+    let none : n ≡ 0 = e in
+    rw none (
+    let here : place + 0 ≡ place = omega arith in
+    ap (λ b. cond b [] (line number start place ∷ [])) (ne_eqb start place (λ same. omega arith))
+    ∙ ap (λ j. line number start j ∷ []) (sym here)
+    ∙ ap (λ b. line number start (place + 0) ∷ cond b [] (line (number + 1) (place + 0 + 1) (place + 0 + 1) ∷ [])) (sym (eq-eqb (place + 0 + 1) (place + 0 + 1) refl)))
+cut_first number start place (byte ∷ bytes) h some n e =
+    bool_cases (ends_line byte)
+    (λ b. n ≡ cond (not b) (1 + position_or_len ends_line bytes) 0 →
+    cond b (line number start place ∷ cut (number + 1) (place + 1) (place + 1) bytes) (cut number start (place + 1) bytes)
+    ≡ line number start (place + n) ∷ cut (number + 1) (place + n + 1) (place + n + 1) (drop (n + 1) (byte ∷ bytes)))
+    (λ t (k : n ≡ 0). let here : place + 0 ≡ place = omega arith in rw (k, here) refl)
+    (λ f k.
+    let m = position_or_len ends_line bytes in
+    let next : place + 1 + m ≡ place + n = omega arith in
+    cut_first number start (place + 1) bytes (omega arith) (omega arith) m refl
+    ∙ ap (λ j. line number start j ∷ cut (number + 1) (j + 1) (j + 1) (drop (m + 1) bytes)) next
+    ∙ ap (λ l. line number start (place + n) ∷ cut (number + 1) (place + n + 1) (place + n + 1) l)
+    (drop-drop (m + 1) 1 (byte ∷ bytes) ∙ ap (λ j. drop j (byte ∷ bytes)) (let last : 1 + (m + 1) ≡ n + 1 = omega arith in last)))
+    e
 
-  module _ (place : ℕ) (h : place < length script) where
-    pub in_line : (get_or script place 0 ≡ line_end → ⊥) → cut number start place (drop place script) ≡ cut number start (place + 1) (drop (place + 1) script)
-    in_line e =
-        at_drop_more (cut number start place) script place 0 h
-        ∙ ap (λ b. cond b (line place ∷ lines_from (number + 1) (place + 1) script) (cut number start (place + 1) (drop (place + 1) script))) (ne_eqb _ _ e)
-
-    pub line_ends : get_or script place 0 ≡ line_end → cut number start place (drop place script) ≡ line place ∷ lines_from (number + 1) (place + 1) script
-    line_ends e =
-        at_drop_more (cut number start place) script place 0 h
-        ∙ ap (λ b. cond b (line place ∷ lines_from (number + 1) (place + 1) script) (cut number start (place + 1) (drop (place + 1) script))) (eq-eqb _ _ e)
-
--- the last line lacks its end
-pub last_line : (script : List ℕ) (number start place : ℕ) → start < place → length script ≤ place → cut number start place (drop place script) ≡ line script number start place ∷ lines_from (number + 1) (place + 1) script
-last_line script number start place s h =
-    at_drop_all (cut number start place) script place h
-    ∙ ap (λ b. cond b [] (line script number start place ∷ [])) (ne_eqb start place (λ e. omega arith))
-    ∙ ap (λ l. line script number start place ∷ l) (sym (none_left script (number + 1) (place + 1) (omega arith)))
+pub first_line : (script : List ℕ) (number start len : ℕ) → start < length script → len ≡ position_or_len ends_line (drop start script) →
+    lines_from number start script ≡ line number start (start + len) ∷ lines_from (number + 1) (start + len + 1) script
+first_line script number start len h e =
+    let next : start + (len + 1) ≡ start + len + 1 = omega arith in
+    cut_first number start start (drop start script) (omega arith) (simp length-drop (omega arith)) len e
+    ∙ ap (λ l. line number start (start + len) ∷ cut (number + 1) (start + len + 1) (start + len + 1) l) (drop-drop (len + 1) start script ∙ ap (λ n. drop n script) next)

@@ -1,8 +1,8 @@
-pub mod Clips
+pub mod Firsts
 pub mod Cuts
 pub mod Scans
-pub mod Digits
 pub mod Lookups
+pub mod ArgKinds
 pub mod Readings
 pub mod Writing
 pub mod Printing

@@ -1,30 +1,15 @@
 -- The digits of a number and the items of a line, one on.
-use Rattle.std.proofs.Common.{◌≡◌, ℕ, ◌+◌, ◌-◌, ◌*◌, ◌/◌, ◌%◌, ◌^◌, ◌<◌, ◌≤◌, leb, List, [], ◌∷◌, ◌++◌, length, get_or, drop, decimal, sym, ap, ◌∙◌, inl, inr, append_assoc, arith, length-append}
+use Rattle.std.proofs.Common.{◌≡◌, ℕ, ◌+◌, ◌*◌, ◌^◌, ◌<◌, ◌≤◌, List, [], ◌∷◌, ◌++◌, length, get_or, drop, decimal, sym, ◌∙◌, append_assoc, arith, length-append}
 use Rattle.std.specs.List.{AllByRecursion}
 use Rattle.shelf.specs.declared.rows.Layer.{Layer}
-use Rattle.std.proofs.lemmas.List.{at_drop_more, at_drop_all, length_push}
-use Rattle.std.proofs.lemmas.Bool.{cases_lt, le-leb, lt-leb}
-use Rattle.std.proofs.lemmas.Fmt.{decimal_digit, decimal_step, length-decimal-le}
+use Rattle.std.proofs.lemmas.List.{at_drop_more, at_drop_all}
+use Rattle.std.proofs.lemmas.Fmt.{length-decimal-le}
 use Rattle.script.specs.declared.items.Item.{Item}
 use Rattle.script.specs.declared.items.Word.{Word}
 use Rattle.script.specs.Items.{spelled, separator, printed}
 
-pub one_digit : (n : ℕ) → n < 10 → length (decimal n) ≡ 1
-one_digit n h = ap length (decimal_digit n h)
-
-pub digit_more : (n : ℕ) → 10 ≤ n → n < 2 ^ 64 → length (decimal n) ≡ length (decimal (n / 10)) + 1
-digit_more n h f = ap length (decimal_step n h f) ∙ length_push (decimal (n / 10)) (48 + n % 10)
-
 pub at_most_20 : (n : ℕ) → n < 2 ^ 64 → length (decimal n) ≤ 20
 at_most_20 n f = length-decimal-le 20 n (omega arith) (omega arith) f
-
--- a part that has room leaves the rest of the room to what follows
-pub room_less : (part rest all room : ℕ) → all ≡ part + rest → part ≤ room → leb rest (room - part) ≡ leb all room
-room_less part rest all room e h =
-    elim (cases_lt room all) [
-      | inl k ↦ lt-leb rest (room - part) (omega arith) ∙ sym (lt-leb all room k)
-      | inr k ↦ le-leb rest (room - part) (omega arith) ∙ sym (le-leb all room k)
-    ]
 
 module _ (items : List Item) (i : ℕ) where
   -- the line from item i on: the item, the byte behind it, and the rest
@@ -32,12 +17,6 @@ module _ (items : List Item) (i : ℕ) where
   item_more d h =
       at_drop_more printed items i d h
       ∙ sym (append_assoc (spelled (get_or items i d)) (separator (drop (i + 1) items) ∷ []) (printed (drop (i + 1) items)))
-
-  pub length_more : (d : Item) → i < length items → length (printed (drop i items)) ≡ length (spelled (get_or items i d)) + 1 + length (printed (drop (i + 1) items))
-  length_more d h = ap length (item_more d h) ∙ simp (length-append) (omega arith)
-
-  pub none_more : length items ≤ i → printed (drop i items) ≡ []
-  none_more h = at_drop_all printed items i h
 
   pub last_separator : length items ≤ i → 10 ≡ separator (drop i items)
   last_separator h = sym (at_drop_all separator items i h)

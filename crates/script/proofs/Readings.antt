@@ -1,6 +1,6 @@
 -- The arguments of a line, one token on.
-use Rattle.std.proofs.Common.{◌≡◌, ℕ, ◌+◌, ◌<◌, ◌≤◌, cond, ltb, List, [], ◌∷◌, length, get_or, drop, Ok, Err, Result, sym, refl, ap, ◌∙◌, append_assoc, append-nil, arith}
-use Rattle.std.proofs.lemmas.List.{at_drop_more, at_drop_all}
+use Rattle.std.proofs.Common.{◌≡◌, ℕ, ◌+◌, ◌<◌, cond, ltb, List, [], ◌∷◌, length, get_or, drop, Ok, Err, Result, sym, refl, ap, ◌∙◌, append_assoc, arith}
+use Rattle.std.proofs.lemmas.List.{at_drop_more}
 use Rattle.std.proofs.lemmas.Bool.Decides.{nat_tests}
 use Rattle.script.specs.declared.args.Arg.{Arg}
 use Rattle.script.specs.declared.fault.Fault.{Fault}
@@ -17,10 +17,6 @@ sooner left right = cond (ltb right.row.number left.row.number) right left
 
 sooner_assoc : (f g h : Fault) → sooner (sooner f g) h ≡ sooner f (sooner g h)
 sooner_assoc f g h = grind (arith, nat_tests)
-
-both_nothing : (x : Result (List Arg) Fault) → both x (Ok []) ≡ x
-both_nothing (Ok args) = ap Ok (append-nil args)
-both_nothing (Err fault) = refl
 
 both_assoc : (x y z : Result (List Arg) Fault) → both (both x y) z ≡ both x (both y z)
 both_assoc (Ok xs) (Ok ys) (Ok zs) = ap Ok (append_assoc xs ys zs)
@@ -46,14 +42,3 @@ module _ (names : List Named) (text : List ℕ) (line : Line) (kinds : List Kind
       made
       ∙ ap (both sofar) (sym (at_drop_more (λ ks. arguments names text line ks tokens) kinds i d h ∙ ap (arguments names text line (get_or kinds i d ∷ drop (i + 1) kinds)) e))
       ∙ inv
-
-  -- no kind is left
-  module _ (h : length kinds ≤ i) where
-    at_end : (rest : List Stretch) → tokens ≡ rest → arguments names text line [] rest ≡ arguments names text line (drop i kinds) tokens
-    at_end rest e = sym (at_drop_all (λ ks. arguments names text line ks tokens) kinds i h ∙ ap (arguments names text line []) e)
-
-    pub enough : tokens ≡ [] → sofar ≡ all
-    enough e = sym (both_nothing sofar) ∙ ap (both sofar) (at_end [] e) ∙ inv
-
-    pub too_many : (token : Stretch) (rest : List Stretch) (answer : Result (List Arg) Fault) → tokens ≡ token ∷ rest → answer ≡ both sofar (Err (fault_at line NoForm token.start)) → answer ≡ all
-    too_many token rest answer e made = made ∙ ap (both sofar) (at_end (token ∷ rest) e) ∙ inv

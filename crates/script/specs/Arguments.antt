@@ -1,8 +1,9 @@
 -- What the tokens behind a line's first word stand for, or the fault that answers.
 use Rattle.std.specs.Prelude.{ℕ, ◌+◌, ◌-◌, Bool, cond, List, [], ◌∷◌, ◌++◌, length, is_some, Ok, Err, Result, nat_lt}
-use Rattle.std.specs.Option.{ok_or}
+use Rattle.std.specs.Option.{ok_or, option_map}
 use Rattle.shelf.specs.Texts.{limit}
 use Rattle.script.specs.declared.args.Arg.{Arg}
+use Rattle.script.specs.declared.args.Arg.TheVariants as arg
 use Rattle.script.specs.declared.fault.Fault.{Fault}
 use Rattle.script.specs.declared.fault.ScriptFault.{ScriptFault}
 use Rattle.script.specs.declared.fault.ScriptFault.TheVariants.{NoForm, AboveLimit, UnknownName, TakenName}
@@ -22,31 +23,24 @@ shape Fresh token = word token
 shape Number token = number token
 shape Quoted token = quoted token
 
--- the value of a token of the right shape: a name has to be known, or to be new, and a number is at most the limit
-abbrev pub shaped : List Named → Kind → List ℕ → Result ℕ ScriptFault
-shaped names Known token = ok_or (meaning names token) UnknownName
-shaped names Fresh token = cond (is_some (meaning names token)) (Err TakenName) (Ok 0)
-shaped names Number token = cond (nat_lt limit (value 0 token)) (Err AboveLimit) (Ok (value 0 token))
-shaped names Quoted token = Ok 0
+-- what a token of the right shape stands for, by its bytes: a name has to be known, or to be new, and a number is at most the limit
+abbrev pub shaped : List Named → Kind → (token : Stretch) (bytes : List ℕ) → Result Arg ScriptFault
+shaped names Known token bytes = ok_or (option_map arg.Version (meaning names bytes)) UnknownName
+shaped names Fresh token bytes = cond (is_some (meaning names bytes)) (Err TakenName) (Ok (arg.Name token))
+shaped names Number token bytes = cond (nat_lt limit (value 0 bytes)) (Err AboveLimit) (Ok (arg.Number (value 0 bytes)))
+shaped names Quoted token bytes = Ok (arg.Quoted (record { start = token.start + 1; end = token.end - 1 }))
 
--- the value of a token
-abbrev pub meant : List Named → Kind → List ℕ → Result ℕ ScriptFault
-meant names kind token = cond (shape kind token) (shaped names kind token) (Err NoForm)
+-- what a token stands for
+abbrev pub meant : List Named → Kind → (token : Stretch) (bytes : List ℕ) → Result Arg ScriptFault
+meant names kind token bytes = cond (shape kind bytes) (shaped names kind token bytes) (Err NoForm)
 
--- of a quoted text what stands between the quotes, else the token
-abbrev pub held : Kind → Stretch → Stretch
-held Known token = token
-held Fresh token = token
-held Number token = token
-held Quoted token = record { start = token.start + 1; end = token.end - 1 }
-
-abbrev pub placed : Line → Kind → Stretch → Result ℕ ScriptFault → Result Arg Fault
-placed line kind token (Ok value) = Ok (record { stretch = held kind token; value = value })
-placed line kind token (Err cause) = Err (fault_at line cause token.start)
+abbrev pub placed : Line → Stretch → Result Arg ScriptFault → Result Arg Fault
+placed line token (Ok arg) = Ok arg
+placed line token (Err cause) = Err (fault_at line cause token.start)
 
 -- a token of a line as an argument, or its fault
 abbrev pub argument : List Named → List ℕ → Line → Kind → Stretch → Result Arg Fault
-argument names text line kind token = placed line kind token (meant names kind (bytes_of token text))
+argument names text line kind token = placed line token (meant names kind token (bytes_of token text))
 
 -- of two parts of a line: both are good, or the fault of the smaller row answers, and the left one if the rows are the same
 abbrev pub both : Result (List Arg) Fault → Result (List Arg) Fault → Result (List Arg) Fault

@@ -1,5 +1,6 @@
 -- Writing into a buffer: bytes from a place on, if all of them have room there.
 use Rattle.std.specs.Prelude.{◌≡◌, ℕ, ◌+◌, Bool, cond, List, ◌++◌, length, take, drop, Some, None, Option, nat_le}
+use Rattle.script.specs.declared.buffer.Writer.{Writer}
 
 -- whether bytes have room from the place `at` on
 abbrev pub has_room : (at : ℕ) (bytes out : List ℕ) → Bool
@@ -22,3 +23,9 @@ pub record Written (at : ℕ) (bytes out out' : List ℕ) (end : ℕ) : Type 0 w
   pub ends : end ≡ at + length bytes
   pub front : take end out' ≡ take at out ++ bytes
   pub behind : drop end out' ≡ drop end out
+
+-- a writer wrote bytes from the place that it had reached, and has reached the place behind them in the same buffer
+pub record Wrote (bytes : List ℕ) (before after : Writer) : Type 0 where
+  pub wrote : Written before.at bytes before.out.now after.out.now after.at
+  pub long : length after.out.now ≡ length before.out.now
+  pub same : after.out.ghost_name ≡ before.out.ghost_name

@@ -4,11 +4,10 @@ use Rattle.shelf.specs.Texts.{limit}
 use Rattle.script.specs.declared.command.Command.{Command}
 use Rattle.script.specs.declared.command.Command.TheVariants.{Open, Keep, Shape, Text, Say, Put, Cut, Crop, Toss, Show, Lines, Pairs, Find}
 use Rattle.script.specs.declared.fault.Fault.{Fault}
-use Rattle.script.specs.declared.shapes.Class.TheVariants.{Plain}
 use Rattle.script.specs.declared.stretch.Stretch.{Stretch}
 use Rattle.script.specs.Bounds.{show_most}
 use Rattle.script.specs.Names.{Named, meaning}
-use Rattle.script.specs.Shapes.{all_of, word}
+use Rattle.script.specs.Shapes.{plain, all_of, word}
 use Rattle.script.specs.Stretches.{count, bytes_of, Inside}
 
 -- a place, a length or the number of a text
@@ -29,7 +28,7 @@ pub record New (names : List Named) (script : List ℕ) (name : Stretch) : Type 
 pub record Quoted (script : List ℕ) (quoted : Stretch) : Type 0 where
   pub inside : Inside quoted script
   pub short : count quoted ≤ 256
-  pub plain : all_of Plain (bytes_of quoted script) ≡ true
+  pub plain : all_of plain (bytes_of quoted script) ≡ true
 
 abbrev pub Holds : List Named → (script : List ℕ) → Command → Type 0
 Holds names script (Open version) = Known names version

@@ -1,5 +1,6 @@
 -- The forms of a line.
-use Rattle.std.specs.Prelude.{ℕ, cond, List, [], ◌∷◌, Some, None, codes, Option}
+use Rattle.std.specs.Prelude.{ℕ, List, [], ◌∷◌, codes, Option}
+use Rattle.std.specs.List.{find}
 use Rattle.std.specs.Str.{bytes_eq}
 use Rattle.script.specs.declared.forms.Kind.{Kind}
 use Rattle.script.specs.declared.forms.Kind.TheVariants.{Known, Fresh, Number, Quoted}
@@ -30,7 +31,6 @@ form Find = record { word = codes "find"; kinds = Known ∷ Number ∷ Quoted �
 abbrev pub verbs : List Verb
 verbs = Open ∷ Keep ∷ Shape ∷ Text ∷ Say ∷ Put ∷ Cut ∷ Crop ∷ Toss ∷ Show ∷ Lines ∷ Pairs ∷ Find ∷ []
 
--- the verb of some that a word is
+-- the first of some verbs whose word it is
 abbrev pub verb_of : List Verb → List ℕ → Option Verb
-verb_of [] word = None
-verb_of (verb ∷ verbs) word = cond (bytes_eq word (form verb).word) (Some verb) (verb_of verbs word)
+verb_of verbs word = find (λ verb. bytes_eq word (form verb).word) verbs

@@ -1,7 +1,6 @@
 -- A printed line: items with one space between two, and 0x0A behind the last.
 use Rattle.std.specs.Prelude.{ℕ, List, [], ◌∷◌, ◌++◌, codes, decimal}
-use Rattle.shelf.specs.declared.rows.Layer as rows
-use Rattle.shelf.specs.declared.rows.Layer.TheVariants.{Shelf, Book, Sheet, Script}
+use Rattle.shelf.specs.Rows.{layer_word}
 use Rattle.script.specs.declared.items.Item.{Item}
 use Rattle.script.specs.declared.items.Item.TheVariants as item
 use Rattle.script.specs.declared.items.Word.{Word}
@@ -15,16 +14,10 @@ word_letters Made = codes "made"
 word_letters Nowhere = codes "none"
 word_letters Fault = codes "fault"
 
-abbrev pub layer_letters : rows.Layer → List ℕ
-layer_letters Shelf = codes "shelf"
-layer_letters Book = codes "book"
-layer_letters Sheet = codes "sheet"
-layer_letters Script = codes "script"
-
 -- the bytes of an item; a number is in decimal
 abbrev pub spelled : Item → List ℕ
 spelled (item.Word word) = word_letters word
-spelled (item.Layer layer) = layer_letters layer
+spelled (item.Layer layer) = layer_word layer
 spelled (item.Number n) = decimal n
 
 -- what stands behind an item, by those that follow

@@ -9,7 +9,7 @@ use Rattle.script.specs.declared.forms.Verb.{Verb}
 use Rattle.script.specs.declared.forms.Verb.TheVariants.{Open, Keep, Shape, Text, Say, Put, Cut, Crop, Toss, Show, Lines, Pairs, Find}
 use Rattle.script.specs.declared.lines.Line.{Line}
 use Rattle.script.specs.declared.stretch.Stretch.{Stretch}
-use Rattle.script.specs.Args.{nothing}
+use Rattle.script.specs.Args.{value_of, nothing, stretch_of}
 use Rattle.script.specs.Arguments.{arguments}
 use Rattle.script.specs.Bounds.{show_most}
 use Rattle.script.specs.Faults.{column, fault_at}
@@ -20,10 +20,10 @@ use Rattle.script.specs.Tokens.{tokens_from}
 
 -- what argument j stands for, and its stretch
 abbrev pub value : List Arg → ℕ → ℕ
-value args j = (slice_index_or args j nothing).value
+value args j = value_of (slice_index_or args j nothing)
 
 abbrev pub part : List Arg → ℕ → Stretch
-part args j = (slice_index_or args j nothing).stretch
+part args j = stretch_of (slice_index_or args j nothing)
 
 -- the command of a form with its arguments
 abbrev pub command : Verb → List Arg → Command

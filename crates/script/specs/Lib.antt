@@ -5,6 +5,7 @@ pub mod Tokens
 pub mod Shapes
 pub mod Faults
 pub mod Bounds
+pub mod CopyVec
 pub mod Names
 pub mod Forms
 pub mod Args

@@ -1,8 +1,9 @@
 -- Names: the words that a script gives to kept versions.
-use Rattle.std.specs.Prelude.{ℕ, Bool, cond, ◌&&◌, List, [], ◌∷◌, ◌++◌, map, length, take, Some, None, codes, Option, nat_le, nat_lt}
+use Rattle.std.specs.Prelude.{ℕ, Bool, cond, ◌&&◌, List, [], ◌∷◌, ◌++◌, map, length, Some, None, codes, Option, nat_le, nat_lt}
 use Rattle.std.specs.Str.{bytes_eq}
 use Rattle.script.specs.declared.names.Entry.{Entry}
 use Rattle.script.specs.declared.names.Names.{Names}
+use Rattle.script.specs.CopyVec.{items}
 
 -- a name, with the version that it stands for
 pub record Named : Type 0 where
@@ -11,10 +12,10 @@ pub record Named : Type 0 where
 
 -- the names that a table holds, in the order given
 abbrev pub name_of : Entry → Named
-name_of entry = record { letters = take entry.len entry.letters; version = entry.version }
+name_of entry = record { letters = items entry.name; version = entry.version }
 
 abbrev pub listed : Names → List Named
-listed names = map name_of (take names.count names.list)
+listed names = map name_of (items names.entries)
 
 -- the version that a name was given to
 abbrev pub lookup : List Named → List ℕ → Option ℕ

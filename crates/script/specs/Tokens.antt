@@ -5,12 +5,15 @@ use Rattle.script.specs.declared.stretch.Stretch.{Stretch}
 abbrev pub space : ℕ
 space = 0x20
 
+abbrev pub is_space : ℕ → Bool
+is_space byte = byte == space
+
 abbrev pub quote : ℕ
 quote = 0x22
 
 -- a token ends before a space outside quotes
 abbrev pub ends : (quoted : Bool) → ℕ → Bool
-ends quoted byte = byte == space && not quoted
+ends quoted byte = is_space byte && not quoted
 
 -- a quote anywhere in a token opens one or closes the open one
 abbrev pub turned : (quoted : Bool) → ℕ → Bool
@@ -25,7 +28,7 @@ pub data State : Type 0 where
 abbrev pub scan : State → (place : ℕ) → List ℕ → List Stretch
 scan between place [] = []
 scan between place (byte ∷ bytes) =
-    cond (byte == space) (scan between (place + 1) bytes) (scan (within place (byte == quote)) (place + 1) bytes)
+    cond (is_space byte) (scan between (place + 1) bytes) (scan (within place (byte == quote)) (place + 1) bytes)
 scan (within start quoted) place [] = record { start = start; end = place } ∷ []
 scan (within start quoted) place (byte ∷ bytes) =
     cond (ends quoted byte)

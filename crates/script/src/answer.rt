@@ -1,13 +1,14 @@
 ghost use Rattle.std.specs.Prelude.{◌≡◌, ◌≤◌, length};
-ghost use Rattle.script.specs.declared.answer.Answer.TheVariants.{Found};
-ghost use Rattle.script.specs.Answers.{line_most, said, fault_items};
+ghost use Rattle.script.specs.Answers.{line_most, said, answer_items, fault_items};
 ghost use Rattle.script.specs.Buffers.{end_of, written};
+ghost use Rattle.script.specs.CopyVec.{items};
 ghost use Rattle.script.specs.Items.{printed};
 
+use super::copyvec::CopyVec;
 use super::fault::Fault;
 use super::items::{Item, Word, print};
 
-// What a line answers, but for the bytes that it shows.
+// What a line that is not refused answers, but for the bytes that it shows.
 #[derive(Clone, Copy)]
 pub enum Answer {
     // Of open, text, say, put, cut, crop and toss: nothing is printed.
@@ -36,82 +37,81 @@ pub enum Answer {
         height: usize,
         pieces: usize,
     },
-    // Of a line that is refused.
-    Refused {
-        fault: Fault,
-    },
 }
 
-// Prints what a line answers from the place `at` on, and gives the place behind it; without room it writes nothing.
-pub fn print_answer(out: &mut [u8], at: usize, answer: Answer) -> Option<usize>
+// A printed line of at most five items, as a list in place.
+fn list_of(line: &[Item]) -> CopyVec<Item, 5>
+    requires { length line.now ≤ 5 }
+    ensures { items result ≡ line.now }
+{
+    let mut list = CopyVec::new(Item::Number(0));
+    list.extend(line);
+    list
+}
+
+impl Answer {
+    // The items that are printed of the answer.
+    fn items(self) -> CopyVec<Item, 5>
+        ensures value { items result ≡ answer_items self }
+        ensures short { length (printed (answer_items self)) ≤ line_most }
+    {
+        match self {
+            Answer::Done => list_of(&[]),
+            Answer::Kept { version, made } => list_of(&[
+                Item::Word(Word::Kept),
+                Item::Number(version),
+                Item::Word(Word::Made),
+                Item::Number(made),
+            ]),
+            // A match of its own: the proof of a nested pattern does not know that the place has 64 bits.
+            Answer::Found { place } => match place {
+                Some(place) => list_of(&[Item::Number(place)]),
+                None => list_of(&[Item::Word(Word::Nowhere)]),
+            },
+            Answer::Lines { count } => list_of(&[Item::Number(count)]),
+            Answer::Pairs { closings, openings } => list_of(&[
+                Item::Number(closings),
+                Item::Number(openings),
+            ]),
+            Answer::Shape {
+                length,
+                height,
+                pieces,
+            } => list_of(&[
+                Item::Number(length),
+                Item::Number(height),
+                Item::Number(pieces),
+            ]),
+        }
+    }
+}
+
+impl Fault {
+    // The items that are printed of the fault.
+    fn items(self) -> CopyVec<Item, 5>
+        ensures value { items result ≡ fault_items self }
+        ensures short { length (printed (fault_items self)) ≤ line_most }
+    {
+        list_of(&[
+            Item::Word(Word::Fault),
+            Item::Number(self.row.number as usize),
+            Item::Layer(self.row.layer),
+            Item::Number(self.line),
+            Item::Number(self.column),
+        ])
+    }
+}
+
+// Prints what a line answers, or the fault that refuses it, from the place `at` on, and gives the place behind it; without
+// room it writes nothing.
+pub fn print_answer(out: &mut [u8], at: usize, answer: Result<Answer, Fault>) -> Option<usize>
     ensures end { result ≡ end_of at (printed (said answer)) out.old }
     ensures buffer { out.new ≡ written at (printed (said answer)) out.old }
     ensures short { length (printed (said answer)) ≤ line_most }
 {
-    match answer {
-        Answer::Done => print(out, at, &[]),
-        Answer::Kept { version, made } => {
-            print(
-                out,
-                at,
-                &[
-                    Item::Word(Word::Kept),
-                    Item::Number(version),
-                    Item::Word(Word::Made),
-                    Item::Number(made),
-                ],
-            )
-        }
-        Answer::Found { place } => print_found(out, at, place),
-        Answer::Lines { count } => print(out, at, &[Item::Number(count)]),
-        Answer::Pairs { closings, openings } => print(
-            out,
-            at,
-            &[Item::Number(closings), Item::Number(openings)],
-        ),
-        Answer::Shape {
-            length,
-            height,
-            pieces,
-        } => {
-            print(
-                out,
-                at,
-                &[
-                    Item::Number(length),
-                    Item::Number(height),
-                    Item::Number(pieces),
-                ],
-            )
-        }
-        Answer::Refused { fault } => print_fault(out, at, fault),
-    }
-}
-
-fn print_found(out: &mut [u8], at: usize, place: Option<usize>) -> Option<usize>
-    ensures end { result ≡ end_of at (printed (said (Found place))) out.old }
-    ensures buffer { out.new ≡ written at (printed (said (Found place))) out.old }
-    ensures short { length (printed (said (Found place))) ≤ line_most }
-{
-    match place {
-        Some(place) => print(out, at, &[Item::Number(place)]),
-        None => print(out, at, &[Item::Word(Word::Nowhere)]),
-    }
-}
-
-fn print_fault(out: &mut [u8], at: usize, fault: Fault) -> Option<usize>
-    ensures end { result ≡ end_of at (printed (fault_items fault)) out.old }
-    ensures buffer { out.new ≡ written at (printed (fault_items fault)) out.old }
-    ensures short { length (printed (fault_items fault)) ≤ line_most }
-{
-    let row = fault.row;
-    let number = row.number as usize;
-    let items = [
-        Item::Word(Word::Fault),
-        Item::Number(number),
-        Item::Layer(row.layer),
-        Item::Number(fault.line),
-        Item::Number(fault.column),
-    ];
-    print(out, at, &items)
+    let items = match answer {
+        Ok(answer) => answer.items(),
+        Err(fault) => fault.items(),
+    };
+    print(out, at, items.as_slice())
 }

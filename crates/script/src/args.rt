@@ -1,60 +1,43 @@
-ghost use Rattle.std.specs.Prelude.{◌≡◌, ◌+◌, ◌<◌, [], ◌∷◌, ◌++◌, slice_index_or};
-ghost use Rattle.script.specs.Args.{kept, nothing};
+ghost use Rattle.std.specs.Prelude.{◌≡◌, ◌⊎◌, map, slice_get, slice_index_or};
+ghost use Rattle.script.specs.Args.{kind_of, value_of, stretch_of, nothing};
 
+use super::copyvec::CopyVec;
+use super::forms::Kind;
 use super::stretch::Stretch;
 
-// What a token stands for: the number that it writes or the version that it names, else 0, with the stretch of the token,
-// or of the bytes between its quotes.
+// What a token stands for.
 #[derive(Clone, Copy)]
-pub(crate) struct Arg {
-    pub(crate) stretch: Stretch,
-    pub(crate) value: usize,
+pub(crate) enum Arg {
+    // the version that a name stands for
+    Version(usize),
+    // a name to keep
+    Name(Stretch),
+    Number(usize),
+    // what stands between two quotes
+    Quoted(Stretch),
 }
 
 // The arguments of a line, at most four.
-#[derive(Clone, Copy)]
-pub(crate) struct Args {
-    list: [Arg; 4],
-    count: usize,
+pub(crate) type Args = CopyVec<Arg, 4>;
+
+// Argument j, which is a version or a number.
+pub(crate) fn value(args: &[Arg], j: usize) -> usize
+    requires { (slice_get (map kind_of args.now) j ≡ Some Kind.Known) ⊎ (slice_get (map kind_of args.now) j ≡ Some Kind.Number) }
+    ensures { result ≡ value_of (slice_index_or args.now j nothing) }
+{
+    match args[j] {
+        Arg::Version(value) | Arg::Number(value) => value,
+        _ => unreachable!(),
+    }
 }
 
-const NONE: Arg = Arg {
-    stretch: Stretch { start: 0, end: 0 },
-    value: 0,
-};
-
-impl Args {
-    pub(crate) fn new() -> Args
-        ensures { (kept result ≡ []) × (result.count ≡ 0) }
-    {
-        Args {
-            list: [NONE; 4],
-            count: 0,
-        }
-    }
-
-    // Argument j.
-    pub(crate) fn at(&self, j: usize) -> Arg
-        ensures { result ≡ slice_index_or (kept self.now) j nothing }
-    {
-        let list: &[Arg] = &self.list;
-        if j < self.count && j < list.len() {
-            list[j]
-        } else {
-            NONE
-        }
-    }
-
-    // The arguments with one more.
-    pub(crate) fn with(self, arg: Arg) -> Args
-        requires { self.count < 4 }
-        ensures { (kept result ≡ kept self ++ arg ∷ []) × (result.count ≡ self.count + 1) }
-    {
-        let mut list = self.list;
-        list[self.count] = arg;
-        Args {
-            list,
-            count: self.count + 1,
-        }
+// Argument j, which is a name to keep or a quoted text.
+pub(crate) fn stretch(args: &[Arg], j: usize) -> Stretch
+    requires { (slice_get (map kind_of args.now) j ≡ Some Kind.Fresh) ⊎ (slice_get (map kind_of args.now) j ≡ Some Kind.Quoted) }
+    ensures { result ≡ stretch_of (slice_index_or args.now j nothing) }
+{
+    match args[j] {
+        Arg::Name(stretch) | Arg::Quoted(stretch) => stretch,
+        _ => unreachable!(),
     }
 }

@@ -1,6 +1,6 @@
-ghost use Rattle.std.specs.Prelude.{◌≡◌, ◌+◌, ◌<◌, ◌≤◌, length, if◌then◌else◌, Err, nat_lt};
+ghost use Rattle.std.specs.Prelude.{◌≡◌, ◌+◌, ◌<◌, ◌≤◌, length, if◌then◌else◌, IfOk, nat_lt};
 ghost use Rattle.script.specs.Args.{outcome, filled};
-ghost use Rattle.script.specs.Arguments.{meant, held, argument, both, one, arguments};
+ghost use Rattle.script.specs.Arguments.{meant, argument, both, one, arguments};
 ghost use Rattle.script.specs.Names.{listed};
 ghost use Rattle.script.specs.Stretches.{Inside};
 ghost use Rattle.script.specs.Tokens.{tokens_from};
@@ -15,60 +15,33 @@ use super::stretch::Stretch;
 use super::tokens::token_at;
 use shelf::LIMIT;
 
-// The value of a token where the form wants a kind.
-fn read_token(names: &Names, kind: Kind, token: &[u8]) -> Result<usize, ScriptFault>
-    ensures { result ≡ meant (listed names.now) kind token.now }
+// What a token stands for where the form wants a kind; `bytes` are the token's.
+fn read_token(names: &Names, kind: Kind, token: Stretch, bytes: &[u8]) -> Result<Arg, ScriptFault>
+    requires { token.start < token.end }
+    ensures { result ≡ meant (listed names.now) kind token bytes.now }
 {
     match kind {
-        Kind::Known if is_word(token) => names.version(token).ok_or(ScriptFault::UnknownName),
-        Kind::Fresh if is_word(token) => match names.version(token) {
+        Kind::Known if is_word(bytes) => names
+            .version(bytes)
+            .map(Arg::Version)
+            .ok_or(ScriptFault::UnknownName),
+        Kind::Fresh if is_word(bytes) => match names.version(bytes) {
             Some(_) => Err(ScriptFault::TakenName),
-            None => Ok(0),
+            None => Ok(Arg::Name(token)),
         },
-        Kind::Number if is_number(token) => {
-            let value = number_value(token);
-            if value > LIMIT {
+        Kind::Number if is_number(bytes) => {
+            let number = number_value(bytes);
+            if number > LIMIT {
                 Err(ScriptFault::AboveLimit)
             } else {
-                Ok(value)
+                Ok(Arg::Number(number))
             }
         }
-        Kind::Quoted if is_quoted(token) => Ok(0),
-        _ => Err(ScriptFault::NoForm),
-    }
-}
-
-// The token, or what stands between its quotes.
-fn inner(kind: Kind, token: Stretch) -> Stretch
-    requires { token.start < token.end }
-    ensures { result ≡ held kind token }
-{
-    match kind {
-        Kind::Quoted => Stretch {
+        Kind::Quoted if is_quoted(bytes) => Ok(Arg::Quoted(Stretch {
             start: token.start + 1,
             end: token.end - 1,
-        },
-        _ => token,
-    }
-}
-
-// A token of a line as an argument.
-fn judge_token(
-    text: &[u8],
-    line: Line,
-    names: &Names,
-    kind: Kind,
-    token: Stretch,
-) -> Result<Arg, Fault>
-    requires { Inside token text.now }
-    ensures { result ≡ argument (listed names.now) text.now line kind token }
-{
-    match read_token(names, kind, token.of(text)) {
-        Ok(value) => Ok(Arg {
-            stretch: inner(kind, token),
-            value,
-        }),
-        Err(cause) => Err(line.fault(cause, token.start)),
+        })),
+        _ => Err(ScriptFault::NoForm),
     }
 }
 
@@ -83,57 +56,63 @@ fn sooner(left: Fault, right: Fault) -> Fault
     }
 }
 
-// One more token, to the right.
+// One token more, to the right.
 fn and(sofar: Result<Args, Fault>, next: Result<Arg, Fault>) -> Result<Args, Fault>
-    requires { filled sofar < 4 }
+    requires { IfOk next (λ _. filled sofar < 4) }
     ensures { (outcome result ≡ both (outcome sofar) (one next)) × (filled result ≤ filled sofar + 1) }
 {
-    match sofar {
-        Ok(args) => match next {
-            Ok(arg) => Ok(args.with(arg)),
-            Err(right) => Err(right),
-        },
-        Err(left) => match next {
-            Ok(_) => Err(left),
-            Err(right) => Err(sooner(left, right)),
-        },
+    match (sofar, next) {
+        (Ok(mut args), Ok(arg)) => {
+            args.extend(&[arg]);
+            Ok(args)
+        }
+        (Err(left), Err(right)) => Err(sooner(left, right)),
+        (Ok(_), Err(fault)) | (Err(fault), Ok(_)) => Err(fault),
     }
 }
 
-// One fault more, to the right.
-fn and_fault(sofar: Result<Args, Fault>, right: Fault) -> Fault
-    ensures { Err result ≡ both (outcome sofar) (Err right) }
-{
-    match sofar {
-        Ok(_) => right,
-        Err(left) => sooner(left, right),
-    }
+// The bytes up to a line's end, the line, and the names given so far.
+#[derive(Drop)]
+pub(crate) struct LineReader<'a> {
+    pub(crate) text: &'a [u8],
+    pub(crate) line: Line,
+    pub(crate) names: &'a Names,
 }
 
-// The arguments of a line, which ends where `text` does, from the tokens at `from` on.
-pub(crate) fn read_arguments(
-    text: &[u8],
-    line: Line,
-    names: &Names,
-    kinds: &[Kind],
-    from: usize,
-) -> Result<Args, Fault>
-    requires { length kinds.now ≤ 4 }
-    ensures { outcome result ≡ arguments (listed names.now) text.now line kinds.now (tokens_from from text.now) }
-{
-    let mut sofar = Ok(Args::new());
-    let mut place = from;
-    for kind in kinds {
-        match token_at(text, place) {
-            None => return Err(and_fault(sofar, line.fault(ScriptFault::NoForm, text.len()))),
-            Some(token) => {
-                sofar = and(sofar, judge_token(text, line, names, *kind, token));
-                place = token.end;
-            }
+impl<'a> LineReader<'a> {
+    // A token as an argument.
+    fn argument(&self, kind: Kind, token: Stretch) -> Result<Arg, Fault>
+        requires { Inside token self.now.text.now }
+        ensures { result ≡ argument (listed self.now.names.now) self.now.text.now self.now.line kind token }
+    {
+        // With `map_err` in place of the match, the proof did not close.
+        match read_token(self.names, kind, token, token.of(self.text)) {
+            Ok(arg) => Ok(arg),
+            Err(cause) => Err(self.line.fault(cause, token.start)),
         }
     }
-    match token_at(text, place) {
-        None => sofar,
-        Some(token) => Err(and_fault(sofar, line.fault(ScriptFault::NoForm, token.start))),
+
+    // The arguments of the line, from the tokens at `from` on.
+    pub(crate) fn arguments(&self, kinds: &[Kind], from: usize) -> Result<Args, Fault>
+        requires { length kinds.now ≤ 4 }
+        ensures { outcome result ≡ arguments (listed self.now.names.now) self.now.text.now self.now.line kinds.now (tokens_from from self.now.text.now) }
+    {
+        let mut sofar = Ok(Args::new(Arg::Number(0)));
+        let mut place = from;
+        for kind in kinds {
+            let Some(token) = token_at(self.text, place) else {
+                let missing = self.line.fault(ScriptFault::NoForm, self.text.len());
+                return and(sofar, Err(missing));
+            };
+            sofar = and(sofar, self.argument(*kind, token));
+            place = token.end;
+        }
+        match token_at(self.text, place) {
+            None => sofar,
+            Some(token) => and(
+                sofar,
+                Err(self.line.fault(ScriptFault::NoForm, token.start)),
+            ),
+        }
     }
 }

@@ -23,7 +23,7 @@ pub fn check_file(bytes: &[u8]) -> Result<(), ScriptFault>
     }
 }
 
-// Refuses an output buffer that is too small.
+// Refuses an output buffer that is too small. Two functions, since the tests are opposite and the faults differ.
 pub fn check_buffer(out: &[u8]) -> Result<(), ScriptFault>
     ensures { result ≡ buffer_refusal out.now }
 {

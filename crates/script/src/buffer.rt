@@ -1,23 +1,23 @@
-ghost use Rattle.std.specs.Prelude.{◌≡◌, ◌+◌, ◌<◌, ◌≤◌, [], ◌∷◌, length};
-ghost use Rattle.script.specs.Buffers.{Written, end_of, written};
+ghost use Rattle.std.specs.Prelude.{◌≡◌, ◌+◌, ◌≤◌, length};
+ghost use Rattle.script.specs.Buffers.{Wrote, end_of, written};
 
-// Writes bytes that have room, and gives the place behind them.
-pub(crate) fn put_bytes(out: &mut [u8], at: usize, bytes: &[u8]) -> usize
-    requires { at + length bytes.now ≤ length out.old }
-    ensures { Written at bytes.now out.old out.new result }
-{
-    let end = at + bytes.len();
-    out[at..end].copy_from_slice(bytes);
-    end
+// Writes into a lent buffer, one thing behind the other: `at` is the place that it has reached.
+#[derive(Drop)]
+pub(crate) struct Writer<'a> {
+    pub(crate) out: &'a mut [u8],
+    pub(crate) at: usize,
 }
 
-// Writes a byte that has room, and gives the place behind it.
-pub(crate) fn put_byte(out: &mut [u8], at: usize, byte: u8) -> usize
-    requires { at < length out.old }
-    ensures { Written at (byte ∷ []) out.old out.new result }
-{
-    out[at] = byte;
-    at + 1
+impl<'a> Writer<'a> {
+    // Writes bytes that have room.
+    pub(crate) fn put(&mut self, bytes: &[u8])
+        requires { self.old.at + length bytes.now ≤ length self.old.out.now }
+        ensures { Wrote bytes.now self.old self.new }
+    {
+        let end = self.at + bytes.len();
+        self.out[self.at..end].copy_from_slice(bytes);
+        self.at = end;
+    }
 }
 
 // Writes bytes from the place `at` on, and gives the place behind them; without room for all of them it writes none.
@@ -28,5 +28,7 @@ pub fn put(out: &mut [u8], at: usize, bytes: &[u8]) -> Option<usize>
     if at > out.len() || bytes.len() > out.len() - at {
         return None;
     }
-    Some(put_bytes(out, at, bytes))
+    let mut writer = Writer { out, at };
+    writer.put(bytes);
+    Some(writer.at)
 }

@@ -36,6 +36,7 @@ pub enum Command {
         len: usize,
     },
     Toss,
+    // Show, Lines and Pairs have the same fields: a struct for these would add a level to each match on a command.
     Show {
         version: usize,
         from: usize,

@@ -24,6 +24,7 @@ pub enum ScriptFault {
 }
 
 impl ScriptFault {
+    // A table of its own: a trait of all faults would have to be imported by every caller.
     pub fn row(&self) -> Row
         ensures { result ≡ script_row self.now }
     {
@@ -44,7 +45,7 @@ impl ScriptFault {
 }
 
 // A fault as it is printed: its row, and the line and the column that it is at, both counted from 1.
-#[derive(Clone, Copy)]
+#[derive(Clone, Copy, PartialEq, Eq, Debug)]
 pub struct Fault {
     pub row: Row,
     pub line: usize,

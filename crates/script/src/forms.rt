@@ -1,8 +1,6 @@
 ghost use Rattle.std.specs.Prelude.{◌≡◌};
 ghost use Rattle.script.specs.Forms.{form, verbs, verb_of};
 
-use super::bytes::same;
-
 // The word that a line begins with.
 #[derive(Clone, Copy)]
 pub(crate) enum Verb {
@@ -47,6 +45,7 @@ impl Form {
     }
 }
 
+// All verbs: the cases of an enum cannot be listed otherwise.
 const VERBS: [Verb; 13] = [
     Verb::Open,
     Verb::Keep,
@@ -88,21 +87,9 @@ impl Verb {
     }
 }
 
-// The verb among some that a word is.
-fn find_verb(verbs: &[Verb], word: &[u8]) -> Option<Verb>
-    ensures { result ≡ verb_of verbs.now word.now }
-{
-    for verb in verbs {
-        if same(word, verb.form().word) {
-            return Some(*verb);
-        }
-    }
-    None
-}
-
 // The verb that a word is.
 pub(crate) fn verb_named(word: &[u8]) -> Option<Verb>
     ensures { result ≡ verb_of verbs word.now }
 {
-    find_verb(&VERBS, word)
+    VERBS.iter().copied().find(|verb| word == verb.form().word)
 }

@@ -8,49 +8,42 @@ fn two_names() -> Names {
     names
 }
 
-// The row and the column of the first line's fault, or 0 and 0.
-fn fault(script: &[u8]) -> (u8, usize) {
-    let Some(line) = line_at(script, 1, 0) else {
-        return (0, 0);
-    };
-    match judge(script, line, &two_names()) {
-        Err(fault) => (fault.row.number, fault.column),
-        Ok(_) => (0, 0),
-    }
+// The row and the column of the first line's fault.
+fn fault(script: &[u8]) -> Option<(u8, usize)> {
+    let line = line_at(script, 1, 0)?;
+    let fault = judge(script, line, &two_names()).err()?;
+    Some((fault.row.number, fault.column))
 }
 
 // The command of the first line, if it has one.
 fn command(script: &[u8]) -> Option<Command> {
     let line = line_at(script, 1, 0)?;
-    match judge(script, line, &two_names()) {
-        Ok(command) => command,
-        Err(_) => None,
-    }
+    judge(script, line, &two_names()).ok()?
 }
 
 #[test]
 fn tokens_have_columns(rt: HostRuntime) {
-    assert_eq!(rt; fault(b"  opens one"), (18, 3));
-    assert_eq!(rt; fault(b"open"), (18, 5));
-    assert_eq!(rt; fault(b"open  "), (18, 7));
-    assert_eq!(rt; fault(b"cut 1 2 3"), (18, 9));
-    assert_eq!(rt; fault(b"cut  1"), (18, 7));
-    assert_eq!(rt; fault(b"toss 1 2"), (18, 6));
-    assert_eq!(rt; fault(b"zip x y z"), (18, 1));
-    assert_eq!(rt; fault(b"Open one"), (18, 1));
+    assert_eq!(rt; fault(b"  opens one"), Some((18, 3)));
+    assert_eq!(rt; fault(b"open"), Some((18, 5)));
+    assert_eq!(rt; fault(b"open  "), Some((18, 7)));
+    assert_eq!(rt; fault(b"cut 1 2 3"), Some((18, 9)));
+    assert_eq!(rt; fault(b"cut  1"), Some((18, 7)));
+    assert_eq!(rt; fault(b"toss 1 2"), Some((18, 6)));
+    assert_eq!(rt; fault(b"zip x y z"), Some((18, 1)));
+    assert_eq!(rt; fault(b"Open one"), Some((18, 1)));
 }
 
 #[test]
 fn the_smallest_row_answers(rt: HostRuntime) {
     // the misshapen token stands before the missing one
-    assert_eq!(rt; fault(b"cut x"), (18, 5));
-    assert_eq!(rt; fault(b"cut 9999999999 x"), (18, 16));
-    assert_eq!(rt; fault(b"put two 0"), (18, 5));
-    assert_eq!(rt; fault(b"cut 1073741825 1073741825"), (19, 5));
-    assert_eq!(rt; fault(b"show six 1073741825 0"), (19, 10));
-    assert_eq!(rt; fault(b"show six 0 4001"), (20, 6));
-    assert_eq!(rt; fault(b"put 0 six"), (20, 7));
-    assert_eq!(rt; fault(b" show one 0 4001"), (22, 2));
+    assert_eq!(rt; fault(b"cut x"), Some((18, 5)));
+    assert_eq!(rt; fault(b"cut 9999999999 x"), Some((18, 16)));
+    assert_eq!(rt; fault(b"put two 0"), Some((18, 5)));
+    assert_eq!(rt; fault(b"cut 1073741825 1073741825"), Some((19, 5)));
+    assert_eq!(rt; fault(b"show six 1073741825 0"), Some((19, 10)));
+    assert_eq!(rt; fault(b"show six 0 4001"), Some((20, 6)));
+    assert_eq!(rt; fault(b"put 0 six"), Some((20, 7)));
+    assert_eq!(rt; fault(b" show one 0 4001"), Some((22, 2)));
 }
 
 #[test]
@@ -62,13 +55,13 @@ fn numbers_have_ten_digits(rt: HostRuntime) {
             len: 0,
         })
     );
-    assert_eq!(rt; fault(b"cut 0 1073741825"), (19, 7));
+    assert_eq!(rt; fault(b"cut 0 1073741825"), Some((19, 7)));
     assert_eq!(rt;
         command(b"crop 0000000001 2"),
         Some(Command::Crop { from: 1, len: 2 })
     );
-    assert_eq!(rt; fault(b"cut 00000000001 2"), (18, 5));
-    assert_eq!(rt; fault(b"cut -1 2"), (18, 5));
+    assert_eq!(rt; fault(b"cut 00000000001 2"), Some((18, 5)));
+    assert_eq!(rt; fault(b"cut -1 2"), Some((18, 5)));
 }
 
 #[test]
@@ -79,10 +72,10 @@ fn names_have_eight_letters(rt: HostRuntime) {
             name: Stretch { start: 5, end: 13 },
         })
     );
-    assert_eq!(rt; fault(b"keep abcdefghi"), (18, 6));
-    assert_eq!(rt; fault(b"keep a1"), (18, 6));
-    assert_eq!(rt; fault(b"keep one"), (21, 6));
-    assert_eq!(rt; fault(b"keep empty"), (21, 6));
+    assert_eq!(rt; fault(b"keep abcdefghi"), Some((18, 6)));
+    assert_eq!(rt; fault(b"keep a1"), Some((18, 6)));
+    assert_eq!(rt; fault(b"keep one"), Some((21, 6)));
+    assert_eq!(rt; fault(b"keep empty"), Some((21, 6)));
     // a command's word may be a name
     assert_eq!(rt;
         command(b"keep open"),
@@ -90,7 +83,7 @@ fn names_have_eight_letters(rt: HostRuntime) {
             name: Stretch { start: 5, end: 9 },
         })
     );
-    assert_eq!(rt; fault(b"open open"), (20, 6));
+    assert_eq!(rt; fault(b"open open"), Some((20, 6)));
 }
 
 #[test]
@@ -109,21 +102,21 @@ fn quotes_hold_plain_bytes(rt: HostRuntime) {
             quoted: Stretch { start: 7, end: 8 },
         })
     );
-    assert_eq!(rt; fault(b"say 0 \"\""), (18, 7));
-    assert_eq!(rt; fault(b"say 0 \"a b"), (18, 7));
-    assert_eq!(rt; fault(b"say 0 a\"b c\""), (18, 7));
-    assert_eq!(rt; fault(b"say 0 \"a\"b"), (18, 7));
-    assert_eq!(rt; fault(b"say 0 \"\x7f\""), (18, 7));
-    assert_eq!(rt; fault(b"say 0 \"\t\""), (18, 7));
+    assert_eq!(rt; fault(b"say 0 \"\""), Some((18, 7)));
+    assert_eq!(rt; fault(b"say 0 \"a b"), Some((18, 7)));
+    assert_eq!(rt; fault(b"say 0 a\"b c\""), Some((18, 7)));
+    assert_eq!(rt; fault(b"say 0 \"a\"b"), Some((18, 7)));
+    assert_eq!(rt; fault(b"say 0 \"\x7f\""), Some((18, 7)));
+    assert_eq!(rt; fault(b"say 0 \"\t\""), Some((18, 7)));
 }
 
 #[test]
 fn other_bytes_are_of_a_token(rt: HostRuntime) {
-    assert_eq!(rt; fault(b"open\tone"), (18, 1));
-    assert_eq!(rt; fault(b"open one\r"), (18, 6));
-    assert_eq!(rt; fault(b"say 0 \"\x80\""), (18, 7));
+    assert_eq!(rt; fault(b"open\tone"), Some((18, 1)));
+    assert_eq!(rt; fault(b"open one\r"), Some((18, 6)));
+    assert_eq!(rt; fault(b"say 0 \"\x80\""), Some((18, 7)));
     // the quote is open up to the line's end
-    assert_eq!(rt; fault(b"open one\"  two"), (18, 6));
+    assert_eq!(rt; fault(b"open one\"  two"), Some((18, 6)));
 }
 
 #[test]
@@ -141,7 +134,7 @@ fn quotes_hold_256_bytes(rt: HostRuntime) {
     let mut longer = [b'a'; 265];
     longer[0..7].copy_from_slice(b"say 0 \"");
     longer[264] = b'"';
-    assert_eq!(rt; fault(&longer), (18, 7));
+    assert_eq!(rt; fault(&longer), Some((18, 7)));
 }
 
 #[test]
@@ -161,7 +154,7 @@ fn versions_are_read(rt: HostRuntime) {
     );
     assert_eq!(rt; command(b"toss "), Some(Command::Toss));
     assert_eq!(rt; command(b"   "), None);
-    assert_eq!(rt; fault(b"   "), (0, 0));
+    assert_eq!(rt; fault(b"   "), None);
 }
 
 #[test]

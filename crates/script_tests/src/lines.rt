@@ -1,35 +1,19 @@
 use script::{
-    Line, Names, ScriptFault, Stretch, check_buffer, check_file, first_column, judge, line_at,
+    Fault, Line, Names, ScriptFault, Stretch, check_buffer, check_file, first_column, judge,
+    line_at,
 };
-use std::test::Fail;
+use shelf::{Layer, Row};
+
+fn line(number: usize, start: usize, end: usize) -> Line {
+    Line { number, start, end }
+}
 
 #[test]
 fn lines_end_at_line_ends(rt: HostRuntime) {
     let script = b"toss\n\ncut";
-    assert_eq!(rt;
-        line_at(script, 1, 0),
-        Some(Line {
-            number: 1,
-            start: 0,
-            end: 4,
-        })
-    );
-    assert_eq!(rt;
-        line_at(script, 2, 5),
-        Some(Line {
-            number: 2,
-            start: 5,
-            end: 5,
-        })
-    );
-    assert_eq!(rt;
-        line_at(script, 3, 6),
-        Some(Line {
-            number: 3,
-            start: 6,
-            end: 9,
-        })
-    );
+    assert_eq!(rt; line_at(script, 1, 0), Some(line(1, 0, 4)));
+    assert_eq!(rt; line_at(script, 2, 5), Some(line(2, 5, 5)));
+    assert_eq!(rt; line_at(script, 3, 6), Some(line(3, 6, 9)));
     assert_eq!(rt; line_at(script, 4, 10), None);
     assert_eq!(rt; line_at(b"", 1, 0), None);
     // nothing behind the last line end is no line
@@ -37,66 +21,33 @@ fn lines_end_at_line_ends(rt: HostRuntime) {
 }
 
 #[test]
-fn faults_name_their_line(rt: HostRuntime) -> Result<(), Fail> {
+fn faults_name_their_line(rt: HostRuntime) {
     let script = b"toss\n\n cut 1\ntoss";
-    let line = Line {
-        number: 3,
-        start: 6,
-        end: 12,
+    let fault = Fault {
+        row: Row {
+            number: 18,
+            layer: Layer::Script,
+        },
+        line: 3,
+        column: 7,
     };
-    let Err(fault) = judge(script, line, &Names::new()) else {
-        return Err(Fail::new("no fault"));
-    };
-    assert_eq!(rt; fault.row.number, 18);
-    assert_eq!(rt; fault.line, 3);
-    assert_eq!(rt; fault.column, 7);
-    Ok(())
+    assert_eq!(rt; judge(script, line(3, 6, 12), &Names::new()), Err(fault));
 }
 
 #[test]
 fn blank_lines_have_no_first_token(rt: HostRuntime) {
     let script = b"  toss\n  \ncut";
-    assert_eq!(rt;
-        first_column(
-            script,
-            Line {
-                number: 1,
-                start: 0,
-                end: 6,
-            },
-        ),
-        Some(3)
-    );
-    assert_eq!(rt;
-        first_column(
-            script,
-            Line {
-                number: 2,
-                start: 7,
-                end: 9,
-            },
-        ),
-        None
-    );
-    assert_eq!(rt;
-        first_column(
-            script,
-            Line {
-                number: 3,
-                start: 10,
-                end: 13,
-            },
-        ),
-        Some(1)
-    );
+    assert_eq!(rt; first_column(script, line(1, 0, 6)), Some(3));
+    assert_eq!(rt; first_column(script, line(2, 7, 9)), None);
+    assert_eq!(rt; first_column(script, line(3, 10, 13)), Some(1));
 }
 
 #[test]
 fn stretches_are_cut_off_at_the_end(rt: HostRuntime) {
     let bytes = b"abcdef";
-    assert!(rt; Stretch { start: 1, end: 3 }.of(bytes) == b"bc".as_slice());
-    assert!(rt; Stretch { start: 4, end: 9 }.of(bytes) == b"ef".as_slice());
-    assert!(rt; Stretch { start: 3, end: 1 }.of(bytes) == b"".as_slice());
+    assert_eq!(rt; Stretch { start: 1, end: 3 }.of(bytes), b"bc".as_slice());
+    assert_eq!(rt; Stretch { start: 4, end: 9 }.of(bytes), b"ef".as_slice());
+    assert_eq!(rt; Stretch { start: 3, end: 1 }.of(bytes), b"".as_slice());
     assert_eq!(rt; Stretch { start: 4, end: 9 }.len(), 5);
 }
 

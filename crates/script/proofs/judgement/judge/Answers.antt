@@ -12,7 +12,7 @@ returns c =
     let names = listed c.args.names.now in
     let script = c.args.script.now in
     let line = c.args.line in
-    let e = c.judge_text.ensures ∙ ap (λ text. judged_text names text line) c.text_of.ensures in
+    let e = c.judge.ensures ∙ ap (λ text. judged_text names text line) c.text_of.ensures in
     record {
       answer = e;
       smallest = subst (Smallest (line_faults names script line)) (sym e) (smallest_answers names (take line.end script) line);

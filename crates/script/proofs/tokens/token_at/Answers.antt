@@ -1,37 +1,20 @@
-use Rattle.std.proofs.Common.{sym, ◌∙◌, arith}
-use Rattle.std.proofs.lemmas.List.{at_drop_all}
-use Rattle.script.specs.Tokens.{scan, between}
-use Rattle.script.proofs.Scans.{at_space, at_first, at_more, at_last, at_end}
+use Rattle.std.proofs.Common.{ap, ◌∙◌, arith}
+use Rattle.std.specs.List.{position_or_len}
+use Rattle.script.proofs.Scans.{other, all_blank, at_other, at_first, ends_later}
 use Rattle.script.proofs.tokens.token_at.Goals as goal
-use Rattle.script.proofs.tokens.token_at.Goals.{then-loop-start-test+else-text-start-eq32, else-loop-start-test}
 
-pub loop-start-preserved : goal.loop-start-preserved
-loop-start-preserved c = c.loop-start.invariant ∙ at_space _ _ c.loop-start-test.true c.if-text-start-eq32.true
+pub returns-then-start-text-clause-first : goal.returns-then-start-text-clause-first
+returns-then-start-text-clause-first c =
+    let left = c.in_ok-get.ensures.lookup.0 in
+    all_blank c.args.text.now c.args.from c.len_of_blanks.result left.0 (c.len_of_blanks.ensures.place ∙ ap (position_or_len other) left.2) (omega arith)
 
-pub returns-then-start-text : goal.returns-then-start-text
-returns-then-start-text c = record { first = c.loop-start.invariant ∙ at_drop_all (scan between _) _ _ c.if-start-text.true; inside = tt }
+pub loop-i-init : goal.loop-i-init
+loop-i-init c =
+    let left = c.in_ok-get.ensures.lookup.0 in
+    at_first c.args.text.now c.args.from c.len_of_blanks.result left.0 (c.len_of_blanks.ensures.place ∙ ap (position_or_len other) left.2) (omega arith)
 
-pub loop-end-init : goal.loop-end-init
-loop-end-init c = (
-  omega arith,
-  omega arith,
-  c.loop-start.invariant ∙ at_first _ _ c.if-start-text.false
-      (elim c.loop-start-test.branch [ then-loop-start-test+else-text-start-eq32 w ↦ w.if-text-start-eq32.false | else-loop-start-test w ↦ absurd (omega arith) ]),
-)
-
-pub loop-end-preserved : goal.loop-end-preserved
-loop-end-preserved c =
-    let e = at_more _ _ c.loop-end-test.true c.loop-start.start c.loop-end.quoted (sym c.if-not-ends_token.ensures) in
-    (omega arith, omega arith, cc)
-
-pub returns-else-not-ends_token : goal.returns-else-not-ends_token
-returns-else-not-ends_token c = record {
-  first = c.loop-end.invariant.2 ∙ at_last _ _ c.loop-end-test.true _ _ (sym c.if-not-ends_token.ensures);
-  inside = record { some = omega arith; within = omega arith };
-}
-
-pub returns-after-loop-end : goal.returns-after-loop-end
-returns-after-loop-end c = record {
-  first = c.loop-end.invariant.2 ∙ at_end _ _ _ _ c.loop-end-test.false;
-  inside = record { some = omega arith; within = omega arith };
-}
+pub returns-then-ends_token-clause-inside : goal.returns-then-ends_token-clause-inside
+returns-then-ends_token-clause-inside c =
+    let left = c.in_ok-get.ensures.lookup.0 in
+    let later = ends_later _ c.loop-i.i c.loop-i.quoted (at_other c.args.text.now c.args.from c.len_of_blanks.result left.0 (c.len_of_blanks.ensures.place ∙ ap (position_or_len other) left.2) (omega arith)) c.if-ends_token.ensures in
+    record { some = omega arith; within = omega arith }
