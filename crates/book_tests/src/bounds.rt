@@ -1,5 +1,5 @@
 // The greatest number of versions, of bytes and of slots.
-use super::steps::{keeps, shaped};
+use super::steps::{keep_doubled, keeps, shaped};
 use ask::read;
 use book::{Book, BookFault, MOST_SLOTS, Node, open_book};
 use shelf::{Held, LIMIT};
@@ -25,20 +25,6 @@ fn versions(rt: HostRuntime) -> Result<(), Fail> {
     Ok(())
 }
 
-// Version 1 is one byte, and each version after it is the one before, twice: one node more.
-// Version n has the height n - 1, and version 31 has LIMIT bytes.
-fn double(rt: &impl Abort, book: &mut Book) -> Result<(), Fail> {
-    book.open(0)?;
-    assert_eq!(rt; book.put_piece(0, 0, 0, 1), Ok(1));
-    keeps(rt, book, 1, 1);
-    for version in 1..31 {
-        book.open(version)?;
-        assert_eq!(rt; book.put_version(0, version), Ok(1));
-        keeps(rt, book, version + 1, 1);
-    }
-    shaped(rt, book, 31, LIMIT, 30, LIMIT)
-}
-
 // A draft of LIMIT bytes takes no byte more, in front, inside or behind.
 fn takes_no_more(rt: &impl Abort, book: &mut Book) {
     for place in [0, 1, LIMIT] {
@@ -49,12 +35,14 @@ fn takes_no_more(rt: &impl Abort, book: &mut Book) {
     }
 }
 
+// Version 31 is one byte doubled 30 times, which is LIMIT bytes.
 #[test]
 fn bytes(rt: HostRuntime) -> Result<(), Fail> {
     let shelf = Held::new(b"a");
     let mut nodes = [Node::FREE; 91];
     let mut book = open_book(&mut nodes, &shelf);
-    double(&rt, &mut book)?;
+    keep_doubled(&rt, &mut book, 1, 31)?;
+    shaped(&rt, &book, 31, LIMIT, 30, LIMIT);
     book.open(31)?;
     takes_no_more(&rt, &mut book);
     // the split at 1 goes down the 30 levels; but at the lowest, the rest is joined with the right side
@@ -64,7 +52,7 @@ fn bytes(rt: HostRuntime) -> Result<(), Fail> {
     assert_eq!(rt; book.put_piece(0, 0, 0, 1), Ok(31));
     takes_no_more(&rt, &mut book);
     keeps(&rt, &mut book, 32, 60);
-    shaped(&rt, &book, 32, LIMIT, 30, LIMIT)?;
+    shaped(&rt, &book, 32, LIMIT, 30, LIMIT);
     last_byte(&rt, &book, &shelf);
     Ok(())
 }

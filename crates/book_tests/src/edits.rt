@@ -1,18 +1,10 @@
 // Edits at the borders of the draft and of the texts. Where several rows fit, the smallest answers.
-use super::steps::{keeps, shaped, spells};
-use book::{Book, BookFault, Node, open_book};
+use super::steps::{draft_piece, keeps, shaped, spells};
+use book::{BookFault, Node, open_book};
 use shelf::Held;
-use std::process::Abort;
 use std::test::Fail;
 
 const TEXT: &[u8] = b"abcde";
-
-// Opens a draft and makes it the piece "abcde".
-fn draft_piece(rt: &impl Abort, book: &mut Book) -> Result<(), Fail> {
-    book.open(0)?;
-    assert_eq!(rt; book.put_piece(0, 0, 0, 5), Ok(1));
-    Ok(())
-}
 
 // Inside the piece the crop of no bytes splits it and keeps nothing; at its ends it makes nothing.
 #[test]
@@ -21,7 +13,7 @@ fn crops_of_no_bytes(rt: HostRuntime) -> Result<(), Fail> {
     let mut nodes = [Node::FREE; 8];
     let mut book = open_book(&mut nodes, &shelf);
     for (from, made) in [(2, 2), (0, 0), (5, 0)] {
-        draft_piece(&rt, &mut book)?;
+        draft_piece(&rt, &mut book, 5)?;
         assert_eq!(rt; book.crop(6, 0), Err(BookFault::PastEnd));
         assert_eq!(rt; book.crop(from, 0), Ok(made));
         // nothing is left
@@ -29,10 +21,10 @@ fn crops_of_no_bytes(rt: HostRuntime) -> Result<(), Fail> {
         assert_eq!(rt; book.crop(0, 0), Ok(0));
         assert_eq!(rt; book.toss(), Ok(()));
     }
-    draft_piece(&rt, &mut book)?;
+    draft_piece(&rt, &mut book, 5)?;
     assert_eq!(rt; book.crop(2, 0), Ok(2));
     keeps(&rt, &mut book, 1, 3);
-    shaped(&rt, &book, 1, 0, 0, 0)?;
+    shaped(&rt, &book, 1, 0, 0, 0);
     spells(&rt, &book, &shelf, 1, b"")
 }
 
@@ -42,7 +34,7 @@ fn nothing_put_or_cut(rt: HostRuntime) -> Result<(), Fail> {
     let shelf = Held::new(TEXT);
     let mut nodes = [Node::FREE; 8];
     let mut book = open_book(&mut nodes, &shelf);
-    draft_piece(&rt, &mut book)?;
+    draft_piece(&rt, &mut book, 5)?;
     for place in [0, 2, 5] {
         assert_eq!(rt; book.cut(place, 0), Ok(0));
         assert_eq!(rt; book.put_version(place, 0), Ok(0));
@@ -63,7 +55,7 @@ fn stretches_past_the_end(rt: HostRuntime) -> Result<(), Fail> {
     let shelf = Held::new(TEXT);
     let mut nodes = [Node::FREE; 8];
     let mut book = open_book(&mut nodes, &shelf);
-    draft_piece(&rt, &mut book)?;
+    draft_piece(&rt, &mut book, 5)?;
     let stretches = [
         (0, 6),
         (5, 1),

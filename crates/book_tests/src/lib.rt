@@ -1,6 +1,7 @@
 #![tactic(auto)]
 
 // Books, questions and sheets at their borders, with what the rules give for each.
+// Each test opens its own book: a helper that hands one to a closure would save a line, and indent the whole test.
 
 #[cfg(test)]
 mod bounds;

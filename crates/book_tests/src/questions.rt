@@ -1,5 +1,5 @@
 // Read and find at the borders of a version, and in one of many pieces.
-use super::steps::{keeps, shaped};
+use super::steps::{keep_doubled, keeps, shaped};
 use ask::{LONGEST_PATTERN, find, read};
 use book::{Book, BookFault, Node, open_book};
 use shelf::Held;
@@ -11,19 +11,13 @@ const TEXT: [u8; 11] = *b"abcdefghijX";
 // Version 11 is "abcdefghij" 1,024 times, and version 12 has "X" behind it.
 // X is joined with the lowest node on the right, and a node is made at each of the 10 levels.
 fn keep_long(rt: &impl Abort, book: &mut Book) -> Result<(), Fail> {
-    book.open(0)?;
-    assert_eq!(rt; book.put_piece(0, 0, 0, 10), Ok(1));
-    keeps(rt, book, 1, 1);
-    for version in 1..11 {
-        book.open(version)?;
-        assert_eq!(rt; book.put_version(0, version), Ok(1));
-        keeps(rt, book, version + 1, 1);
-    }
-    shaped(rt, book, 11, 10_240, 10, 1_024)?;
+    keep_doubled(rt, book, 10, 11)?;
+    shaped(rt, book, 11, 10_240, 10, 1_024);
     book.open(11)?;
     assert_eq!(rt; book.put_piece(10_240, 0, 10, 1), Ok(11));
     keeps(rt, book, 12, 11);
-    shaped(rt, book, 12, 10_241, 11, 1_025)
+    shaped(rt, book, 12, 10_241, 11, 1_025);
+    Ok(())
 }
 
 #[test]
@@ -32,6 +26,7 @@ fn places_of_patterns(rt: HostRuntime) -> Result<(), Fail> {
     let mut nodes = [Node::FREE; 22];
     let mut book = open_book(&mut nodes, &shelf);
     keep_long(&rt, &mut book)?;
+    // Rows of a place, a pattern and where it is found: as a struct each would take five lines.
     let table: [(usize, &[u8], Option<usize>); 16] = [
         (0, b"a", Some(0)),
         (1, b"a", Some(10)),
@@ -96,6 +91,7 @@ fn refused_finds(rt: HostRuntime) -> Result<(), Fail> {
     let mut book = open_book(&mut nodes, &shelf);
     keep_long(&rt, &mut book)?;
     let too_long = [b'a'; LONGEST_PATTERN + 1];
+    // Rows of a version, a place, a pattern and the refusal: as a struct each would take six lines.
     let table: [(usize, usize, &[u8], BookFault); 8] = [
         (13, 0, b"a", BookFault::NotKept),
         (13, 99_999, b"", BookFault::NotKept),

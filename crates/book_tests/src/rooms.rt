@@ -1,26 +1,10 @@
 // Short lists of node records.
-use super::steps::{Letter, keeps, put_letters, shaped, spells};
-use book::{Book, BookFault, Node, open_book};
+use super::steps::{Letter, draft_three, keeps, put_letters, shaped, spells};
+use book::{BookFault, Node, open_book};
 use shelf::Held;
-use std::process::Abort;
 use std::test::Fail;
 
 const LETTERS: &[u8] = b"abcd";
-
-// Opens a draft and makes it ((a b) c), which takes 5 slots.
-fn draft_three(rt: &impl Abort, book: &mut Book) -> Result<(), Fail> {
-    book.open(0)?;
-    put_letters(
-        rt,
-        book,
-        &[
-            Letter::new(0, 0, 1),
-            Letter::new(1, 1, 2),
-            Letter::new(2, 2, 2),
-        ],
-    );
-    Ok(())
-}
 
 // What makes nothing passes without a record.
 #[test]
@@ -34,7 +18,8 @@ fn no_record(rt: HostRuntime) -> Result<(), Fail> {
     assert_eq!(rt; book.cut(0, 0), Ok(0));
     assert_eq!(rt; book.crop(0, 0), Ok(0));
     keeps(&rt, &mut book, 1, 0);
-    shaped(&rt, &book, 1, 0, 0, 0)
+    shaped(&rt, &book, 1, 0, 0, 0);
+    Ok(())
 }
 
 #[test]
@@ -65,7 +50,7 @@ fn just_enough(rt: HostRuntime) -> Result<(), Fail> {
     let shelf = Held::new(LETTERS);
     let mut nodes = [Node::FREE; 8];
     let mut book = open_book(&mut nodes, &shelf);
-    draft_three(&rt, &mut book)?;
+    draft_three(&rt, &mut book, [0, 1, 2])?;
     put_letters(&rt, &mut book, &[Letter::new(3, 3, 3)]);
     assert_eq!(rt; book.put_piece(0, 0, 0, 1), Err(BookFault::NoRoom));
     keeps(&rt, &mut book, 1, 8);
@@ -79,15 +64,15 @@ fn one_too_few(rt: HostRuntime) -> Result<(), Fail> {
     let shelf = Held::new(LETTERS);
     let mut nodes = [Node::FREE; 7];
     let mut book = open_book(&mut nodes, &shelf);
-    draft_three(&rt, &mut book)?;
+    draft_three(&rt, &mut book, [0, 1, 2])?;
     assert_eq!(rt; book.put_piece(3, 0, 3, 1), Err(BookFault::NoRoom));
     assert_eq!(rt; book.cut(1, 1), Ok(2));
     assert_eq!(rt; book.toss(), Ok(()));
     // once more from the start, and the draft is as it was before the refusal
-    draft_three(&rt, &mut book)?;
+    draft_three(&rt, &mut book, [0, 1, 2])?;
     assert_eq!(rt; book.put_piece(3, 0, 3, 1), Err(BookFault::NoRoom));
     keeps(&rt, &mut book, 1, 5);
-    shaped(&rt, &book, 1, 3, 2, 3)?;
+    shaped(&rt, &book, 1, 3, 2, 3);
     spells(&rt, &book, &shelf, 1, b"abc")?;
     book.open(1)?;
     assert_eq!(rt; book.cut(1, 1), Ok(2));

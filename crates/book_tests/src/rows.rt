@@ -1,7 +1,7 @@
 // The rows of the refusals, as the table of refusals numbers them.
 use book::BookFault;
 use sheet::SheetFault;
-use shelf::Layer;
+use shelf::{Layer, Row};
 
 #[test]
 fn rows_of_the_book(rt: HostRuntime) {
@@ -18,18 +18,17 @@ fn rows_of_the_book(rt: HostRuntime) {
         (BookFault::BadPattern, 14),
         (BookFault::OtherTexts, 17),
     ];
+    let layer = Layer::Book;
     for (fault, number) in table {
-        for row in [fault.row(), SheetFault::Book(fault).row()] {
-            assert_eq!(rt; row.number, number);
-            assert_eq!(rt; row.layer, Layer::Book);
-        }
+        assert_eq!(rt; fault.row(), Row { number, layer });
+        assert_eq!(rt; SheetFault::Book(fault).row(), Row { number, layer });
     }
 }
 
 #[test]
 fn rows_of_a_sheet(rt: HostRuntime) {
+    let layer = Layer::Sheet;
     for (fault, number) in [(SheetFault::Uncovered, 15), (SheetFault::TooShort, 16)] {
-        assert_eq!(rt; fault.row().number, number);
-        assert_eq!(rt; fault.row().layer, Layer::Sheet);
+        assert_eq!(rt; fault.row(), Row { number, layer });
     }
 }

@@ -1,5 +1,5 @@
 // Sheets that are short, that are brought up while a draft is open, and stretches of a version.
-use super::steps::{Letter, keeps, put_letters};
+use super::steps::{Letter, draft_three, keep_doubled, keeps, put_letters};
 use book::{Book, BookFault, Node, open_book};
 use rule::brackets::{Brackets, Unmatched};
 use rule::lines::Lines;
@@ -44,27 +44,13 @@ fn no_value(rt: HostRuntime) -> Result<(), Fail> {
 }
 
 // Version 1 is a tree of three line ends, which takes 5 slots.
-fn keep_three(rt: &impl Abort, book: &mut Book) -> Result<(), Fail> {
-    book.open(0)?;
-    put_letters(
-        rt,
-        book,
-        &[
-            Letter::new(0, 0, 1),
-            Letter::new(1, 0, 2),
-            Letter::new(2, 0, 2),
-        ],
-    );
-    keeps(rt, book, 1, 5);
-    Ok(())
-}
-
 #[test]
 fn one_value_too_few(rt: HostRuntime) -> Result<(), Fail> {
     let shelf = Held::new(b"\n");
     let mut nodes = [Node::FREE; 8];
     let mut book = open_book(&mut nodes, &shelf);
-    keep_three(&rt, &mut book)?;
+    draft_three(&rt, &mut book, [0, 0, 0])?;
+    keeps(&rt, &mut book, 1, 5);
     let mut four = [OLD; 4];
     let mut sheet = Sheet::<Lines>::new(&mut four);
     assert_eq!(rt; sheet.bring_up(&book, &shelf), Err(SheetFault::TooShort));
@@ -115,47 +101,36 @@ fn tossed_draft(rt: HostRuntime) -> Result<(), Fail> {
     Ok(())
 }
 
-// Version 4 is ")(\n" eight times, a tree of eight pieces.
-fn keep_eight(rt: &impl Abort, book: &mut Book) -> Result<(), Fail> {
-    book.open(0)?;
-    assert_eq!(rt; book.put_piece(0, 0, 0, 3), Ok(1));
-    keeps(rt, book, 1, 1);
-    for version in 1..4 {
-        book.open(version)?;
-        assert_eq!(rt; book.put_version(0, version), Ok(1));
-        keeps(rt, book, version + 1, 1);
-    }
-    Ok(())
+fn unmatched(closings: u32, openings: u32) -> Unmatched {
+    Unmatched { closings, openings }
 }
 
+// Version 4 is ")(\n" eight times, a tree of eight pieces.
 // The stretches: the whole, all but the first and the last byte, "\n" to ")", two ends of pieces, and no bytes.
 #[test]
 fn stretches(rt: HostRuntime) -> Result<(), Fail> {
     let shelf = Held::new(b")(\n");
     let mut nodes = [Node::FREE; 4];
     let mut book = open_book(&mut nodes, &shelf);
-    keep_eight(&rt, &mut book)?;
+    keep_doubled(&rt, &mut book, 3, 4)?;
     let mut counts = [OLD; 4];
     let mut lines = Sheet::<Lines>::new(&mut counts);
     assert_eq!(rt; lines.bring_up(&book, &shelf), Ok(4));
     let mut pairs = [OLD_PAIR; 4];
     let mut brackets = Sheet::<Brackets>::new(&mut pairs);
     assert_eq!(rt; brackets.bring_up(&book, &shelf), Ok(4));
+    // Rows of a place, a length, the line ends and the brackets: as a struct each would take six lines.
     let table = [
-        (0, 24, 8, 1, 1),
-        (1, 22, 7, 0, 1),
-        (2, 20, 7, 1, 0),
-        (11, 2, 1, 1, 0),
-        (10, 3, 1, 0, 0),
-        (24, 0, 0, 0, 0),
+        (0, 24, 8, unmatched(1, 1)),
+        (1, 22, 7, unmatched(0, 1)),
+        (2, 20, 7, unmatched(1, 0)),
+        (11, 2, 1, unmatched(1, 0)),
+        (10, 3, 1, unmatched(0, 0)),
+        (24, 0, 0, unmatched(0, 0)),
     ];
-    for (from, len, ends, closings, openings) in table {
+    for (from, len, ends, left) in table {
         assert_eq!(rt; lines.summary(&book, &shelf, 4, from, len), Ok(ends));
-        let unmatched = Unmatched { closings, openings };
-        assert_eq!(rt;
-            brackets.summary(&book, &shelf, 4, from, len),
-            Ok(unmatched)
-        );
+        assert_eq!(rt; brackets.summary(&book, &shelf, 4, from, len), Ok(left));
     }
     past_the_end(&rt, &mut lines, &book, &shelf);
     Ok(())

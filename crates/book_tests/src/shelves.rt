@@ -14,6 +14,11 @@ const SECOND: &[u8] = b"cd";
 
 const THIRD: &[u8] = b"e";
 
+// A shelf of two texts.
+fn two_texts<'a>(first: &'a [u8], second: &'a [u8]) -> Pair<Held<'a>, Held<'a>> {
+    Pair::new(Held::new(first), Held::new(second))
+}
+
 // Version 1 has a piece of each text: "cd", "a\n" and "e".
 fn keep_all(rt: &impl Abort, book: &mut Book) -> Result<(), Fail> {
     book.open(0)?;
@@ -38,16 +43,13 @@ fn answers<S: Shelf>(rt: &impl Abort, book: &Book, shelf: &S) -> Result<(), Fail
 
 #[test]
 fn same_texts(rt: HostRuntime) -> Result<(), Fail> {
-    let shelf = Pair::new(
-        Pair::new(Held::new(FIRST), Held::new(SECOND)),
-        Held::new(THIRD),
-    );
+    let shelf = Pair::new(two_texts(FIRST, SECOND), Held::new(THIRD));
     let mut nodes = [Node::FREE; 8];
     let mut book = open_book(&mut nodes, &shelf);
     keep_all(&rt, &mut book)?;
     answers(&rt, &book, &shelf)?;
-    let nested = Pair::new(Held::new(SECOND), Held::new(THIRD));
-    answers(&rt, &book, &Pair::new(Held::new(FIRST), nested))?;
+    let nested = Pair::new(Held::new(FIRST), two_texts(SECOND, THIRD));
+    answers(&rt, &book, &nested)?;
     let rings = Pair::new(Ring::new(b"\na", 1), Ring::new(b"cd", 2));
     answers(&rt, &book, &Pair::new(rings, Ring::new(b"e", 7)))
 }
@@ -91,10 +93,7 @@ fn smaller_rows<S: Shelf>(rt: &impl Abort, book: &Book, shelf: &S) {
 
 #[test]
 fn other_texts(rt: HostRuntime) -> Result<(), Fail> {
-    let shelf = Pair::new(
-        Pair::new(Held::new(FIRST), Held::new(SECOND)),
-        Held::new(THIRD),
-    );
+    let shelf = Pair::new(two_texts(FIRST, SECOND), Held::new(THIRD));
     let mut nodes = [Node::FREE; 8];
     let mut book = open_book(&mut nodes, &shelf);
     keep_all(&rt, &mut book)?;
@@ -102,18 +101,17 @@ fn other_texts(rt: HostRuntime) -> Result<(), Fail> {
     let mut sheet = Sheet::<Lines>::new(&mut values);
     assert_eq!(rt; sheet.bring_up(&book, &shelf), Ok(5));
     // fewer texts
-    let two = Pair::new(Held::new(FIRST), Held::new(SECOND));
+    let two = two_texts(FIRST, SECOND);
     refuses(&rt, &book, &two, &mut sheet);
     smaller_rows(&rt, &book, &two);
     // one text more, an empty one
-    let front = Pair::new(Held::new(FIRST), Held::new(SECOND));
-    let back = Pair::new(Held::new(THIRD), Held::new(b""));
-    refuses(&rt, &book, &Pair::new(front, back), &mut sheet);
+    let four = Pair::new(two_texts(FIRST, SECOND), two_texts(THIRD, b""));
+    refuses(&rt, &book, &four, &mut sheet);
     // the last text one byte longer, and the first one byte shorter
-    let front = Pair::new(Held::new(FIRST), Held::new(SECOND));
-    refuses(&rt, &book, &Pair::new(front, Held::new(b"ef")), &mut sheet);
-    let back = Pair::new(Held::new(SECOND), Held::new(THIRD));
-    refuses(&rt, &book, &Pair::new(Held::new(b"a"), back), &mut sheet);
+    let longer = Pair::new(two_texts(FIRST, SECOND), Held::new(b"ef"));
+    refuses(&rt, &book, &longer, &mut sheet);
+    let shorter = Pair::new(Held::new(b"a"), two_texts(SECOND, THIRD));
+    refuses(&rt, &book, &shorter, &mut sheet);
     // nothing was changed by the refusals
     assert_eq!(rt; sheet.summary(&book, &shelf, 1, 0, 5), Ok(1));
     answers(&rt, &book, &shelf)

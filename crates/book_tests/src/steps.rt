@@ -1,5 +1,5 @@
 // Steps that the tests share.
-use ask::{read, shape};
+use ask::{Dimensions, read, shape};
 use book::{Book, Kept};
 use shelf::Shelf;
 use std::process::Abort;
@@ -34,6 +34,42 @@ pub fn keeps(rt: &impl Abort, book: &mut Book, version: usize, made: usize) {
     assert_eq!(rt; book.keep(), Ok(Kept { version, made }));
 }
 
+// Opens a draft and makes it ((a b) c), which takes 5 slots. The letters are given by their places in the text.
+pub fn draft_three(rt: &impl Abort, book: &mut Book, letters: [usize; 3]) -> Result<(), Fail> {
+    let [a, b, c] = letters;
+    book.open(0)?;
+    put_letters(
+        rt,
+        book,
+        &[
+            Letter::new(0, a, 1),
+            Letter::new(1, b, 2),
+            Letter::new(2, c, 2),
+        ],
+    );
+    Ok(())
+}
+
+// Opens a draft and makes it one piece, the first `len` bytes of text 0.
+pub fn draft_piece(rt: &impl Abort, book: &mut Book, len: usize) -> Result<(), Fail> {
+    book.open(0)?;
+    assert_eq!(rt; book.put_piece(0, 0, 0, len), Ok(1));
+    Ok(())
+}
+
+// Version 1 is that piece, and each version after it, up to the last, is the one before it, twice: one node more.
+// Version n has the height n - 1.
+pub fn keep_doubled(rt: &impl Abort, book: &mut Book, len: usize, last: usize) -> Result<(), Fail> {
+    draft_piece(rt, book, len)?;
+    keeps(rt, book, 1, 1);
+    for version in 1..last {
+        book.open(version)?;
+        assert_eq!(rt; book.put_version(0, version), Ok(1));
+        keeps(rt, book, version + 1, 1);
+    }
+    Ok(())
+}
+
 // A version has this length, height and number of pieces.
 pub fn shaped(
     rt: &impl Abort,
@@ -42,28 +78,27 @@ pub fn shaped(
     len: usize,
     height: usize,
     pieces: usize,
-) -> Result<(), Fail> {
-    let got = shape(book, version)?;
-    assert_eq!(rt; got.len, len);
-    assert_eq!(rt; got.height, height);
-    assert_eq!(rt; got.pieces, pieces);
-    Ok(())
+) {
+    let dimensions = Dimensions {
+        len,
+        height,
+        pieces,
+    };
+    assert_eq!(rt; shape(book, version), Ok(dimensions));
 }
 
-// A version spells these bytes, at most 16, and has no more.
-pub fn spells<S: Shelf>(
+// A version spells these bytes, and has no more.
+// Beside `shows` of shelf_tests, which reads a text of a shelf: the two make other calls, and share only `==`.
+pub fn spells<S: Shelf, const N: usize>(
     rt: &impl Abort,
     book: &Book,
     shelf: &S,
     version: usize,
-    bytes: &[u8],
+    bytes: &[u8; N],
 ) -> Result<(), Fail> {
-    let n = bytes.len();
-    assert!(rt; n <= 16);
-    assert_eq!(rt; shape(book, version)?.len, n);
-    let mut buffer = [0u8; 16];
-    let out = &mut buffer[0..n];
-    read(book, shelf, version, 0, out)?;
-    assert!(rt; *out == *bytes);
+    assert_eq!(rt; shape(book, version)?.len, N);
+    let mut out = [0u8; N];
+    read(book, shelf, version, 0, &mut out)?;
+    assert_eq!(rt; out, *bytes);
     Ok(())
 }

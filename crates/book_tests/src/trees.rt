@@ -7,7 +7,13 @@ use std::test::Fail;
 
 const LETTERS: &[u8] = b"abcdefgh";
 
-// For each letter put at an end of the draft, the slots made and the height then. A piece takes one slot, and then
+// What a letter that is put at an end of the draft comes to: the slots made, and the height then.
+struct Growth {
+    made: usize,
+    height: usize,
+}
+
+// That of each letter. A piece takes one slot, and then
 // a joins nothing;
 // b gives (a b);
 // c gives ((a b) c);
@@ -17,31 +23,35 @@ const LETTERS: &[u8] = b"abcdefgh";
 // g goes down to (e f): ((e f) g) and ((c d)((e f) g)), which is too high, so that two more give (((a b)(c d))((e f) g));
 // h goes down to g: (g h), ((e f)(g h)), and the root.
 // At the other end the rules are the same with left and right exchanged.
-const GROWTH: [(usize, usize); 8] = [
-    (1, 0),
-    (2, 1),
-    (2, 2),
-    (3, 2),
-    (3, 3),
-    (4, 3),
-    (5, 3),
-    (4, 3),
+const GROWTH: [Growth; 8] = [
+    Growth { made: 1, height: 0 },
+    Growth { made: 2, height: 1 },
+    Growth { made: 2, height: 2 },
+    Growth { made: 3, height: 2 },
+    Growth { made: 3, height: 3 },
+    Growth { made: 4, height: 3 },
+    Growth { made: 5, height: 3 },
+    Growth { made: 4, height: 3 },
 ];
 
+// The end of the draft that the letters are put at.
+#[derive(Clone, Copy)]
+enum End {
+    Front,
+    Back,
+}
+
 // Puts the eight letters, each into the version before it, and keeps each as a version.
-fn grow(rt: &impl Abort, book: &mut Book, at_front: bool) -> Result<(), Fail> {
-    let mut version = 0usize;
-    for (made, height) in GROWTH {
-        book.open(version)?;
-        let (place, from) = if at_front {
-            (0, 7usize.saturating_sub(version))
-        } else {
-            (version, version)
+fn grow(rt: &impl Abort, book: &mut Book, end: End) -> Result<(), Fail> {
+    for (n, growth) in GROWTH.iter().enumerate() {
+        book.open(n)?;
+        let letter = match end {
+            End::Front => Letter::new(0, 7 - n, growth.made),
+            End::Back => Letter::new(n, n, growth.made),
         };
-        put_letters(rt, book, &[Letter::new(place, from, made)]);
-        version = version.saturating_add(1);
-        keeps(rt, book, version, made);
-        shaped(rt, book, version, version, height, version)?;
+        put_letters(rt, book, &[letter]);
+        keeps(rt, book, n + 1, growth.made);
+        shaped(rt, book, n + 1, n + 1, growth.height, n + 1);
     }
     Ok(())
 }
@@ -51,7 +61,7 @@ fn letters_at_the_end(rt: HostRuntime) -> Result<(), Fail> {
     let shelf = Held::new(LETTERS);
     let mut nodes = [Node::FREE; 24];
     let mut book = open_book(&mut nodes, &shelf);
-    grow(&rt, &mut book, false)?;
+    grow(&rt, &mut book, End::Back)?;
     spells(&rt, &book, &shelf, 3, b"abc")?;
     spells(&rt, &book, &shelf, 8, b"abcdefgh")
 }
@@ -61,20 +71,20 @@ fn letters_at_the_front(rt: HostRuntime) -> Result<(), Fail> {
     let shelf = Held::new(LETTERS);
     let mut nodes = [Node::FREE; 24];
     let mut book = open_book(&mut nodes, &shelf);
-    grow(&rt, &mut book, true)?;
+    grow(&rt, &mut book, End::Front)?;
     spells(&rt, &book, &shelf, 3, b"fgh")?;
     spells(&rt, &book, &shelf, 8, b"abcdefgh")
 }
 
-// Keeps the version that four letters give.
-fn keeps_four(rt: &impl Abort, letters: &[Letter], made: usize) -> Result<(), Fail> {
+// Keeps the version that four letters give, in 10 slots.
+fn keeps_four(rt: &impl Abort, letters: &[Letter]) -> Result<(), Fail> {
     let shelf = Held::new(LETTERS);
     let mut nodes = [Node::FREE; 10];
     let mut book = open_book(&mut nodes, &shelf);
     book.open(0)?;
     put_letters(rt, &mut book, letters);
-    keeps(rt, &mut book, 1, made);
-    shaped(rt, &book, 1, 4, 2, 4)?;
+    keeps(rt, &mut book, 1, 10);
+    shaped(rt, &book, 1, 4, 2, 4);
     spells(rt, &book, &shelf, 1, b"abcd")
 }
 
@@ -91,7 +101,6 @@ fn double_turns(rt: HostRuntime) -> Result<(), Fail> {
             Letter::new(2, 3, 2),
             Letter::new(0, 0, 5),
         ],
-        10,
     )?;
     // (a (b c)), and d behind
     keeps_four(
@@ -102,6 +111,5 @@ fn double_turns(rt: HostRuntime) -> Result<(), Fail> {
             Letter::new(0, 0, 2),
             Letter::new(3, 3, 5),
         ],
-        10,
     )
 }
