@@ -12,6 +12,7 @@ fn crops_of_no_bytes(rt: HostRuntime) -> Result<(), Fail> {
     let shelf = Held::new(TEXT);
     let mut nodes = [Node::FREE; 8];
     let mut book = open_book(&mut nodes, &shelf);
+    // Pairs of a place and the slots made: as a struct each would take four lines.
     for (from, made) in [(2, 2), (0, 0), (5, 0)] {
         draft_piece(&rt, &mut book, 5)?;
         assert_eq!(rt; book.crop(6, 0), Err(BookFault::PastEnd));
@@ -56,6 +57,7 @@ fn stretches_past_the_end(rt: HostRuntime) -> Result<(), Fail> {
     let mut nodes = [Node::FREE; 8];
     let mut book = open_book(&mut nodes, &shelf);
     draft_piece(&rt, &mut book, 5)?;
+    // Pairs of a place and a length: as a struct each would take four lines.
     let stretches = [
         (0, 6),
         (5, 1),

@@ -65,6 +65,7 @@ fn longest_pattern(rt: HostRuntime) -> Result<(), Fail> {
         pattern.extend_from_slice(b"fghijabcde")?;
     }
     pattern.extend_from_slice(b"fghija")?;
+    // Pairs of a place and where the pattern is found: as a struct each would take four lines.
     for (from, place) in [
         (0, 5),
         (6, 15),

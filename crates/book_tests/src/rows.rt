@@ -5,6 +5,7 @@ use shelf::{Layer, Row};
 
 #[test]
 fn rows_of_the_book(rt: HostRuntime) {
+    // Rows of a fault and its number: as a struct each would take four lines.
     let table = [
         (BookFault::NotKept, 5),
         (BookFault::DraftOpen, 6),
@@ -28,6 +29,7 @@ fn rows_of_the_book(rt: HostRuntime) {
 #[test]
 fn rows_of_a_sheet(rt: HostRuntime) {
     let layer = Layer::Sheet;
+    // Pairs, as above.
     for (fault, number) in [(SheetFault::Uncovered, 15), (SheetFault::TooShort, 16)] {
         assert_eq!(rt; fault.row(), Row { number, layer });
     }

@@ -138,6 +138,7 @@ fn stretches(rt: HostRuntime) -> Result<(), Fail> {
 
 fn past_the_end(rt: &impl Abort, sheet: &mut Sheet<Lines>, book: &Book, shelf: &Held) {
     let past_end = SheetFault::Book(BookFault::PastEnd);
+    // Pairs of a place and a length: as a struct each would take four lines.
     for (from, len) in [(24, 1), (25, 0), (0, 25), (1, usize::MAX), (usize::MAX, 2)] {
         assert_eq!(rt; sheet.summary(book, shelf, 4, from, len), Err(past_end));
     }

@@ -57,8 +57,8 @@ pub fn draft_piece(rt: &impl Abort, book: &mut Book, len: usize) -> Result<(), F
     Ok(())
 }
 
-// Version 1 is that piece, and each version after it, up to the last, is the one before it, twice: one node more.
-// Version n has the height n - 1.
+// Keeps versions up to `last`. Version 1 is one piece, the first `len` bytes of text 0, and each later version is the one
+// before it, twice, which takes one node. Version n has the height n - 1.
 pub fn keep_doubled(rt: &impl Abort, book: &mut Book, len: usize, last: usize) -> Result<(), Fail> {
     draft_piece(rt, book, len)?;
     keeps(rt, book, 1, 1);
@@ -70,7 +70,7 @@ pub fn keep_doubled(rt: &impl Abort, book: &mut Book, len: usize, last: usize) -
     Ok(())
 }
 
-// A version has this length, height and number of pieces.
+// A version has these dimensions. They are three numbers: as a `Dimensions` each call would take nine lines more.
 pub fn shaped(
     rt: &impl Abort,
     book: &Book,

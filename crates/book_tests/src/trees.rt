@@ -13,7 +13,7 @@ struct Growth {
     height: usize,
 }
 
-// That of each letter. A piece takes one slot, and then
+// What each of the eight letters comes to. A piece takes one slot, and then
 // a joins nothing;
 // b gives (a b);
 // c gives ((a b) c);

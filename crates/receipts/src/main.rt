@@ -91,6 +91,7 @@ fn give_up(book: &mut Book, stopped: Stopped) -> Refusal {
 }
 
 // Prints the number of a kept version, the slots made for it, and its bytes.
+// A fault is matched and printed, here and below: with `?` it would end the program.
 fn print_kept(rt: &HostRuntime, book: &Book, shelf: &Held, kept: Kept) -> anyhow::Result<()> {
     let Kept { version, made } = kept;
     println!(rt; "kept {version} made {made}")?;

@@ -1,5 +1,5 @@
 use crate::cover::Cover;
-use crate::expected::{line_ends, question_agrees, unmatched};
+use crate::expected::{Source, line_ends, unmatched};
 use crate::plain::Plain;
 use crate::slots::Slots;
 use book::{BookFault, MOST_SLOTS};
@@ -44,7 +44,7 @@ impl<'a> Beside<'a> {
     ) -> Result<bool, AllocError> {
         match answer {
             Ok(told) => Ok(self.plain.make(change)? && self.slots.count(change, told)?),
-            Err(given) => Ok(match self.plain.outcome(change) {
+            Err(given) => Ok(match self.plain.effect(change) {
                 Err(fault) => fault == *given,
                 Ok(_) => *given == BookFault::NoRoom && self.slots.few(),
             }),
@@ -66,7 +66,8 @@ impl<'a> Beside<'a> {
             (Call::Book(change), Answer::Book(given)) => self.change_agrees(change, given),
             (Call::Ask { shelf, question }, Answer::Book(given)) => {
                 let same = self.same(shelf);
-                Ok(question_agrees(&self.plain, same, question, given))
+                let source = Source::new(&self.plain, same);
+                Ok(source.agrees(question, given))
             }
             (
                 Call::Sheet {
@@ -77,8 +78,9 @@ impl<'a> Beside<'a> {
                 Answer::First(given),
             ) => {
                 let same = self.same(shelf);
+                let source = Source::new(&self.plain, same);
                 let sheet = &mut self.first;
-                Ok(sheet.agrees(&self.plain, &self.slots, same, call, *given, line_ends))
+                Ok(sheet.agrees(source, &self.slots, call, *given, line_ends))
             }
             (
                 Call::Sheet {
@@ -89,8 +91,9 @@ impl<'a> Beside<'a> {
                 Answer::Second(given),
             ) => {
                 let same = self.same(shelf);
+                let source = Source::new(&self.plain, same);
                 let sheet = &mut self.second;
-                Ok(sheet.agrees(&self.plain, &self.slots, same, call, *given, unmatched))
+                Ok(sheet.agrees(source, &self.slots, call, *given, unmatched))
             }
             _ => Ok(false),
         }

@@ -1,5 +1,4 @@
-use crate::expected::check_texts;
-use crate::plain::{Plain, check_end, stretch};
+use crate::expected::Source;
 use crate::slots::Slots;
 use book::BookFault;
 use replay::{SheetCall, SheetTold};
@@ -12,41 +11,31 @@ pub struct Cover {
     covered: usize,
 }
 
-// The bytes that a call on a sheet asks about.
-fn asked<'a>(plain: &'a Plain, call: SheetCall) -> &'a [u8] {
-    match call {
-        SheetCall::BringUp => b"",
-        SheetCall::Summary { version, from, len } => {
-            stretch(plain.version(version).unwrap_or(b""), from, len)
-        }
-    }
-}
-
 impl Cover {
     pub fn new(room: usize) -> Cover {
         Cover { room, covered: 0 }
     }
 
-    // Refuses a call on a sheet by the smallest row that it meets, row 15 left out.
-    fn check(
+    // The bytes that a summary is of, and none for a bring-up. Refuses a call by the smallest row that it meets, row 15 left out.
+    fn expected<'b>(
         self,
-        plain: &Plain,
+        source: Source<'b>,
         slots: &Slots,
-        same: bool,
         call: SheetCall,
-    ) -> Result<(), SheetFault> {
+    ) -> Result<Option<&'b [u8]>, SheetFault> {
         match call {
             SheetCall::BringUp => {
                 if slots.settled() > self.room {
                     return Err(SheetFault::TooShort);
                 }
+                source.check_texts()?;
+                Ok(None)
             }
             SheetCall::Summary { version, from, len } => {
-                check_end(plain.version(version)?.len(), from, len)?;
+                let bytes = source.read(version, from, len)?;
+                Ok(Some(bytes))
             }
         }
-        check_texts(same)?;
-        Ok(())
     }
 
     // Whether row 15 can come.
@@ -60,25 +49,24 @@ impl Cover {
     // Whether a call on a sheet was answered as the strings and the slots say; `value` gives the value of some bytes by its rule.
     pub fn agrees<V: Copy + PartialEq, F: Fn(&[u8]) -> V>(
         &mut self,
-        plain: &Plain,
+        source: Source,
         slots: &Slots,
-        same: bool,
         call: SheetCall,
         answer: Result<SheetTold<V>, SheetFault>,
         value: F,
     ) -> bool
         requires { F.IsAlwaysCallable value }
     {
-        match (self.check(plain, slots, same, call), answer) {
-            (Ok(()) | Err(SheetFault::Book(BookFault::OtherTexts)), Err(SheetFault::Uncovered)) =>
+        match (self.expected(source, slots, call), answer) {
+            (Ok(_) | Err(SheetFault::Book(BookFault::OtherTexts)), Err(SheetFault::Uncovered)) =>
                 self.uncovered(slots, call),
             (Err(fault), Err(given)) => fault == given,
-            (Ok(()), Ok(SheetTold::Added(added))) => {
+            (Ok(None), Ok(SheetTold::Added(added))) => {
                 let before = self.covered;
                 self.covered = slots.settled();
                 added == self.covered.saturating_sub(before)
             }
-            (Ok(()), Ok(SheetTold::Value(given))) => given == value(asked(plain, call)),
+            (Ok(Some(bytes)), Ok(SheetTold::Value(given))) => given == value(bytes),
             _ => false,
         }
     }

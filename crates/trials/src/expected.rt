@@ -47,70 +47,6 @@ pub fn unmatched(bytes: &[u8]) -> Unmatched {
     })
 }
 
-// Refuses a shelf that has not the book's texts.
-pub fn check_texts(same: bool) -> Result<(), BookFault> {
-    if same {
-        Ok(())
-    } else {
-        Err(BookFault::OtherTexts)
-    }
-}
-
-// The bytes that a read gives, or why it is refused.
-fn read<'a>(
-    plain: &'a Plain,
-    same: bool,
-    version: usize,
-    from: usize,
-    len: usize,
-) -> Result<&'a [u8], BookFault> {
-    let bytes = plain.version(version)?;
-    check_end(bytes.len(), from, len)?;
-    check_texts(same)?;
-    Ok(stretch(bytes, from, len))
-}
-
-// The place that a find gives, or why it is refused.
-fn find(
-    plain: &Plain,
-    same: bool,
-    version: usize,
-    from: usize,
-    pattern: &[u8],
-) -> Result<Option<usize>, BookFault> {
-    let bytes = plain.version(version)?;
-    check_end(bytes.len(), from, 0)?;
-    if pattern.is_empty() || pattern.len() > LONGEST_PATTERN {
-        return Err(BookFault::BadPattern);
-    }
-    check_texts(same)?;
-    Ok(first_place(bytes, from, pattern))
-}
-
-// What is expected of a question, or why it is refused.
-fn expected<'a>(
-    plain: &'a Plain,
-    same: bool,
-    question: Question,
-) -> Result<Outcome<'a>, BookFault> {
-    match question {
-        Question::Read { version, from, len } => {
-            let bytes = read(plain, same, version, from, len)?;
-            Ok(Outcome::Bytes(bytes))
-        }
-        Question::Find {
-            version,
-            from,
-            start,
-            count,
-        } => {
-            let pattern = stretch(plain.patterns(), start, count);
-            Ok(Outcome::Found(find(plain, same, version, from, pattern)?))
-        }
-        Question::Shape { version } => Ok(Outcome::Long(plain.version(version)?.len())),
-    }
-}
-
 // Whether a tree can have these dimensions and spell `len` bytes.
 fn fits(dimensions: Dimensions, len: usize) -> bool {
     if len == 0 {
@@ -120,18 +56,74 @@ fn fits(dimensions: Dimensions, len: usize) -> bool {
     }
 }
 
-// Whether a question to the book was answered as the strings say; `same` says whether the shelf had the book's texts.
-pub fn question_agrees(
-    plain: &Plain,
+// What a question is answered from: the plain book, and whether the shelf that is handed has its texts.
+#[derive(Clone, Copy)]
+pub struct Source<'b> {
+    plain: &'b Plain<'b>,
     same: bool,
-    question: Question,
-    answer: &Result<BookTold, BookFault>,
-) -> bool {
-    match (expected(plain, same, question), answer) {
-        (Err(fault), Err(given)) => fault == *given,
-        (Ok(Outcome::Bytes(bytes)), Ok(BookTold::Bytes(given))) => given.as_slice() == bytes,
-        (Ok(Outcome::Found(place)), Ok(BookTold::Found(given))) => place == *given,
-        (Ok(Outcome::Long(len)), Ok(BookTold::Shaped(given))) => fits(*given, len),
-        _ => false,
+}
+
+impl<'b> Source<'b> {
+    pub fn new(plain: &'b Plain<'b>, same: bool) -> Source<'b> {
+        Source { plain, same }
+    }
+
+    // Refuses a shelf that has not the book's texts.
+    pub fn check_texts(self) -> Result<(), BookFault> {
+        if self.same {
+            Ok(())
+        } else {
+            Err(BookFault::OtherTexts)
+        }
+    }
+
+    // The bytes that a read gives, or why it is refused.
+    pub fn read(self, version: usize, from: usize, len: usize) -> Result<&'b [u8], BookFault> {
+        let bytes = self.plain.version(version)?;
+        check_end(bytes.len(), from, len)?;
+        self.check_texts()?;
+        Ok(stretch(bytes, from, len))
+    }
+
+    // The place that a find gives, or why it is refused.
+    fn find(self, version: usize, from: usize, pattern: &[u8]) -> Result<Option<usize>, BookFault> {
+        let bytes = self.plain.version(version)?;
+        check_end(bytes.len(), from, 0)?;
+        if pattern.is_empty() || pattern.len() > LONGEST_PATTERN {
+            return Err(BookFault::BadPattern);
+        }
+        self.check_texts()?;
+        Ok(first_place(bytes, from, pattern))
+    }
+
+    // What is expected of a question, or why it is refused.
+    fn expected(self, question: Question) -> Result<Outcome<'b>, BookFault> {
+        match question {
+            Question::Read { version, from, len } => {
+                let bytes = self.read(version, from, len)?;
+                Ok(Outcome::Bytes(bytes))
+            }
+            Question::Find {
+                version,
+                from,
+                start,
+                count,
+            } => {
+                let pattern = stretch(self.plain.patterns(), start, count);
+                Ok(Outcome::Found(self.find(version, from, pattern)?))
+            }
+            Question::Shape { version } => Ok(Outcome::Long(self.plain.version(version)?.len())),
+        }
+    }
+
+    // Whether a question to the book was answered as the strings say.
+    pub fn agrees(self, question: Question, answer: &Result<BookTold, BookFault>) -> bool {
+        match (self.expected(question), answer) {
+            (Err(fault), Err(given)) => fault == *given,
+            (Ok(Outcome::Bytes(bytes)), Ok(BookTold::Bytes(given))) => given.as_slice() == bytes,
+            (Ok(Outcome::Found(place)), Ok(BookTold::Found(given))) => place == *given,
+            (Ok(Outcome::Long(len)), Ok(BookTold::Shaped(given))) => fits(*given, len),
+            _ => false,
+        }
     }
 }

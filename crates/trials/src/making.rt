@@ -5,144 +5,155 @@ use replay::{Call, Change, Question, SheetCall, Which};
 // A draft that is longer is cropped next.
 const LONG: usize = 3000;
 
-// A version's number, now and then of one that is not kept.
-fn some_version(random: &mut Random, plain: &Plain) -> usize {
-    random.about(plain.strings.len().saturating_sub(1))
+// Makes calls from the next numbers, mostly such as the plain book accepts.
+#[derive(Drop)]
+pub struct Maker<'b> {
+    pub random: &'b mut Random,
+    pub plain: &'b Plain<'b>,
 }
 
-// A place of a string of `total` bytes and a number of bytes behind it, up to `most`; now and then they reach past it.
-fn some_stretch(random: &mut Random, total: usize, most: usize) -> (usize, usize) {
-    let from = random.about(total);
-    let len = random.about(most.min(total.saturating_sub(from)));
-    (from, len)
-}
-
-// A shelf, the first three times out of four.
-fn some_shelf(random: &mut Random) -> Which {
-    random.pick(&[Which::Second, Which::First, Which::First, Which::First])
-}
-
-fn piece(random: &mut Random, plain: &Plain, place: usize) -> Change {
-    let text = match random.below(30) {
-        0 => 2,
-        1 => random.about(plain.texts.len()),
-        _ => random.below(2),
-    };
-    let total = plain.text(text).unwrap_or(b"").len();
-    let (from, len) = some_stretch(random, total, 30);
-    Change::PutPiece {
-        place,
-        text,
-        from,
-        len,
+impl<'b> Maker<'b> {
+    // A version's number, now and then of one that is not kept.
+    fn some_version(&mut self) -> usize {
+        self.random
+            .about(self.plain.strings.len().saturating_sub(1))
     }
-}
 
-// An edit of a draft of `total` bytes.
-fn edit(random: &mut Random, plain: &Plain, total: usize) -> Change {
-    match random.below(16) {
-        0..=3 => {
-            let place = random.about(total);
-            piece(random, plain, place)
-        }
-        4..=5 => piece(random, plain, total),
-        6 => piece(random, plain, 0),
-        7..=9 => Change::PutVersion {
-            place: random.about(total),
-            version: some_version(random, plain),
-        },
-        10 => Change::PutVersion {
-            place: total,
-            version: some_version(random, plain),
-        },
-        11..=14 => {
-            let (from, len) = some_stretch(random, total, 60);
-            Change::Cut { from, len }
-        }
-        _ => {
-            let from = random.about(total / 4);
-            let len = random.about(total.saturating_sub(from));
-            Change::Crop { from, len }
+    // A place of a string of `total` bytes and a number of bytes behind it, up to `most`; now and then they reach past it.
+    fn some_stretch(&mut self, total: usize, most: usize) -> (usize, usize) {
+        let from = self.random.about(total);
+        let len = self.random.about(most.min(total.saturating_sub(from)));
+        (from, len)
+    }
+
+    // A shelf, the first three times out of four.
+    fn some_shelf(&mut self) -> Which {
+        self.random
+            .pick(&[Which::Second, Which::First, Which::First, Which::First])
+    }
+
+    fn piece(&mut self, place: usize) -> Change {
+        let text = match self.random.below(30) {
+            0 => 2,
+            1 => self.random.about(self.plain.texts.len()),
+            _ => self.random.below(2),
+        };
+        let total = self.plain.text(text).map_or(0, |bytes| bytes.len());
+        let (from, len) = self.some_stretch(total, 30);
+        Change::PutPiece {
+            place,
+            text,
+            from,
+            len,
         }
     }
-}
 
-fn some_change(random: &mut Random, plain: &Plain) -> Change {
-    let total = match plain.open_draft() {
-        Err(_) if random.below(8) != 0 => {
-            let version = some_version(random, plain);
-            return Change::Open { version };
-        }
-        Err(_) => 0,
-        Ok(draft) => draft.len(),
-    };
-    if total > LONG {
-        let from = random.below(LONG);
-        let len = random.below(total.saturating_sub(from).min(LONG / 2));
-        return Change::Crop { from, len };
-    }
-    let kinds = if plain.draft.is_some() { 40 } else { 8 };
-    match random.below(kinds) {
-        0..=3 => Change::Keep,
-        4 => Change::Toss,
-        5 => Change::Open {
-            version: some_version(random, plain),
-        },
-        _ => edit(random, plain, total),
-    }
-}
-
-fn some_question(random: &mut Random, plain: &Plain) -> Question {
-    let version = some_version(random, plain);
-    let total = plain.len(version);
-    match random.below(5) {
-        0 => Question::Shape { version },
-        1..=2 => {
-            let (from, len) = some_stretch(random, total, total);
-            Question::Read { version, from, len }
-        }
-        _ => {
-            let from = random.about(total);
-            let start = random.below(plain.patterns().len());
-            let most = if random.below(10) == 0 { 400 } else { 6 };
-            let count = random.about(most);
-            Question::Find {
-                version,
-                from,
-                start,
-                count,
+    // An edit of a draft of `total` bytes.
+    fn edit(&mut self, total: usize) -> Change {
+        match self.random.below(16) {
+            0..=3 => {
+                let place = self.random.about(total);
+                self.piece(place)
+            }
+            4..=5 => self.piece(total),
+            6 => self.piece(0),
+            7..=9 => Change::PutVersion {
+                place: self.random.about(total),
+                version: self.some_version(),
+            },
+            10 => Change::PutVersion {
+                place: total,
+                version: self.some_version(),
+            },
+            11..=14 => {
+                let (from, len) = self.some_stretch(total, 60);
+                Change::Cut { from, len }
+            }
+            _ => {
+                let from = self.random.about(total / 4);
+                let len = self.random.about(total.saturating_sub(from));
+                Change::Crop { from, len }
             }
         }
     }
-}
 
-fn some_sheet_call(random: &mut Random, plain: &Plain) -> SheetCall {
-    if random.below(6) == 0 {
-        return SheetCall::BringUp;
+    fn some_change(&mut self) -> Change {
+        let total = match self.plain.open_draft() {
+            Err(_) if self.random.below(8) != 0 => {
+                let version = self.some_version();
+                return Change::Open { version };
+            }
+            Err(_) => 0,
+            Ok(draft) => draft.len(),
+        };
+        if total > LONG {
+            let from = self.random.below(LONG);
+            let len = self.random.below(total.saturating_sub(from).min(LONG / 2));
+            return Change::Crop { from, len };
+        }
+        let kinds = if self.plain.draft.is_some() { 40 } else { 8 };
+        match self.random.below(kinds) {
+            0..=3 => Change::Keep,
+            4 => Change::Toss,
+            5 => Change::Open {
+                version: self.some_version(),
+            },
+            _ => self.edit(total),
+        }
     }
-    let version = some_version(random, plain);
-    let total = plain.len(version);
-    let (from, len) = some_stretch(random, total, total);
-    SheetCall::Summary { version, from, len }
-}
 
-// A call made from the next numbers, mostly one that the plain book accepts.
-pub fn some_call(random: &mut Random, plain: &Plain) -> Call {
-    match random.below(12) {
-        0..=7 => Call::Book(some_change(random, plain)),
-        8..=9 => Call::Ask {
-            shelf: some_shelf(random),
-            question: some_question(random, plain),
-        },
-        _ => Call::Sheet {
-            sheet: random.pick(&[Which::First, Which::Second]),
-            shelf: some_shelf(random),
-            call: some_sheet_call(random, plain),
-        },
+    fn some_question(&mut self) -> Question {
+        let version = self.some_version();
+        let total = self.plain.len(version);
+        match self.random.below(5) {
+            0 => Question::Shape { version },
+            1..=2 => {
+                let (from, len) = self.some_stretch(total, total);
+                Question::Read { version, from, len }
+            }
+            _ => {
+                let from = self.random.about(total);
+                let start = self.random.below(self.plain.patterns().len());
+                let most = if self.random.below(10) == 0 { 400 } else { 6 };
+                let count = self.random.about(most);
+                Question::Find {
+                    version,
+                    from,
+                    start,
+                    count,
+                }
+            }
+        }
+    }
+
+    fn some_sheet_call(&mut self) -> SheetCall {
+        if self.random.below(6) == 0 {
+            return SheetCall::BringUp;
+        }
+        let version = self.some_version();
+        let total = self.plain.len(version);
+        let (from, len) = self.some_stretch(total, total);
+        SheetCall::Summary { version, from, len }
+    }
+
+    // A call made from the next numbers, mostly one that the plain book accepts.
+    pub fn some_call(&mut self) -> Call {
+        match self.random.below(12) {
+            0..=7 => Call::Book(self.some_change()),
+            8..=9 => Call::Ask {
+                shelf: self.some_shelf(),
+                question: self.some_question(),
+            },
+            _ => Call::Sheet {
+                sheet: self.random.pick(&[Which::First, Which::Second]),
+                shelf: self.some_shelf(),
+                call: self.some_sheet_call(),
+            },
+        }
     }
 }
 
-// The number of a kept version, counting round where fewer are kept.
+// The number of a kept version, counting round where fewer are kept; version 0 always is.
 fn kept(plain: &Plain, k: usize) -> usize {
     k.checked_rem(plain.strings.len()).unwrap_or(0)
 }

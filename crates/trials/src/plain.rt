@@ -20,9 +20,9 @@ pub struct Parts<'b> {
     after: &'b [u8],
 }
 
-// What an accepted change leaves.
+// What an accepted change does.
 #[derive(Clone, Copy)]
-pub enum Outcome<'b> {
+pub enum Effect<'b> {
     Draft(Parts<'b>),
     Kept,
     Tossed,
@@ -108,24 +108,24 @@ impl<'a> Plain<'a> {
         self.texts.first().map_or(b"", |text| text.as_slice())
     }
 
-    // Puts bytes into the draft at a place.
-    fn put<'b>(&'b self, place: usize, bytes: &'b [u8]) -> Result<Outcome<'b>, BookFault> {
+    // What it does to put bytes into the draft at a place. Refuses a place past the end, and a draft that would be too long.
+    fn put<'b>(&'b self, place: usize, bytes: &'b [u8]) -> Result<Effect<'b>, BookFault> {
         let draft = self.open_draft()?;
         check_end(draft.len(), place, 0)?;
         if bytes.len() > LIMIT.saturating_sub(draft.len()) {
             return Err(BookFault::TooLong);
         }
-        Ok(Outcome::Draft(Parts::replaced(draft, place, 0, bytes)))
+        Ok(Effect::Draft(Parts::replaced(draft, place, 0, bytes)))
     }
 
-    // Puts a piece of a text into the draft at a place.
+    // The same for a piece of a text, which may not be empty.
     fn put_piece(
         &self,
         place: usize,
         text: usize,
         from: usize,
         len: usize,
-    ) -> Result<Outcome<'_>, BookFault> {
+    ) -> Result<Effect<'_>, BookFault> {
         let draft = self.open_draft()?;
         let bytes = self.text(text)?;
         check_end(bytes.len(), from, len)?;
@@ -136,15 +136,15 @@ impl<'a> Plain<'a> {
         self.put(place, stretch(bytes, from, len))
     }
 
-    // What a change leaves, or the smallest row that it meets, row 12 left out.
-    pub fn outcome(&self, change: Change) -> Result<Outcome<'_>, BookFault> {
+    // What a change does. Refuses one by the smallest row that it meets, row 12 left out.
+    pub fn effect(&self, change: Change) -> Result<Effect<'_>, BookFault> {
         match change {
             Change::Open { version } => {
                 let string = self.version(version)?;
                 if self.draft.is_some() {
                     return Err(BookFault::DraftOpen);
                 }
-                Ok(Outcome::Draft(Parts::whole(string)))
+                Ok(Effect::Draft(Parts::whole(string)))
             }
             Change::PutPiece {
                 place,
@@ -156,41 +156,41 @@ impl<'a> Plain<'a> {
             Change::Cut { from, len } => {
                 let draft = self.open_draft()?;
                 check_end(draft.len(), from, len)?;
-                Ok(Outcome::Draft(Parts::replaced(draft, from, len, b"")))
+                Ok(Effect::Draft(Parts::replaced(draft, from, len, b"")))
             }
             Change::Crop { from, len } => {
                 let draft = self.open_draft()?;
                 check_end(draft.len(), from, len)?;
-                Ok(Outcome::Draft(Parts::whole(stretch(draft, from, len))))
+                Ok(Effect::Draft(Parts::whole(stretch(draft, from, len))))
             }
             Change::Keep => {
                 self.open_draft()?;
                 if self.strings.len() >= MOST_VERSIONS {
                     return Err(BookFault::AllKept);
                 }
-                Ok(Outcome::Kept)
+                Ok(Effect::Kept)
             }
             Change::Toss => {
                 self.open_draft()?;
-                Ok(Outcome::Tossed)
+                Ok(Effect::Tossed)
             }
         }
     }
 
     // Makes a change that is accepted, and says whether it is.
     pub fn make(&mut self, change: Change) -> Result<bool, AllocError> {
-        match self.outcome(change) {
+        match self.effect(change) {
             Err(_) => return Ok(false),
-            Ok(Outcome::Draft(parts)) => {
+            Ok(Effect::Draft(parts)) => {
                 let draft = parts.joined(self.heap)?;
                 self.draft = Some(draft);
             }
-            Ok(Outcome::Kept) => {
+            Ok(Effect::Kept) => {
                 if let Some(string) = self.draft.take() {
                     self.strings.push(string)?;
                 }
             }
-            Ok(Outcome::Tossed) => self.draft = None,
+            Ok(Effect::Tossed) => self.draft = None,
         }
         Ok(true)
     }

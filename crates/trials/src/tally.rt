@@ -11,7 +11,8 @@ struct Count {
     refused: u32,
 }
 
-// The calls of each kind.
+// The calls of each kind. A list of counts with their names was tried: the borrow checker does not cover the lending of a tally
+// with `&'static str` in it.
 #[derive(Clone, Copy, Default)]
 struct Kinds {
     open: Count,

@@ -1,5 +1,5 @@
 use crate::beside::Beside;
-use crate::making::{on_sheet, some_call, whole_read, whole_summary};
+use crate::making::{Maker, on_sheet, whole_read, whole_summary};
 use crate::random::Random;
 use crate::tally::Tally;
 use book::{Book, MOST_VERSIONS, Node, open_book};
@@ -105,7 +105,11 @@ pub fn run_trial<S: Shelf + Drop, T: Shelf + Drop>(
         beside,
     };
     for _ in 0..calls {
-        let call = some_call(random, &trial.beside.plain);
+        let mut maker = Maker {
+            random: &mut *random,
+            plain: &trial.beside.plain,
+        };
+        let call = maker.some_call();
         trial.make(call, tally)?;
     }
     trial.close(tally)
