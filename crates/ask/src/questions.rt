@@ -2,6 +2,7 @@ ghost use Rattle.std.specs.Prelude.{◌≡◌, ℕ, List, map, length, OnErr};
 ghost use Rattle.model.specs.Answers.{bytes, found};
 ghost use Rattle.model.specs.Book.{book_step};
 ghost use Rattle.model.specs.Calls as calls;
+ghost use Rattle.model.specs.Histories.{BookGoesOn};
 ghost use Rattle.book.specs.Faults.{answer};
 ghost use Rattle.book.specs.Whole.{view};
 ghost use Rattle.ask.specs.Told.{shape_told};
@@ -33,6 +34,9 @@ pub fn read<S: Shelf>(
     ensures steps { book_step (S.texts shelf.now) (view book.now)
         (calls.read version from (length out.old) (map length (S.texts shelf.now)))
         ≡ (answer (λ _. bytes out.new) result, view book.now) }
+    ensures history { BookGoesOn (S.texts shelf.now) (view book.now)
+        (calls.read version from (length out.old) (map length (S.texts shelf.now)))
+        (answer (λ _. bytes out.new) result) (view book.now) }
     ensures refused { OnErr result (out.new ≡ out.old) }
 {
     // A sum that is too large for its type is past the end too.
@@ -54,9 +58,12 @@ pub fn find<S: Shelf>(
     from: usize,
     pattern: &[u8],
 ) -> Result<Option<usize>, BookFault>
-    ensures { book_step (S.texts shelf.now) (view book.now)
+    ensures steps { book_step (S.texts shelf.now) (view book.now)
         (calls.find version from pattern.now (map length (S.texts shelf.now)))
         ≡ (answer found result, view book.now) }
+    ensures history { BookGoesOn (S.texts shelf.now) (view book.now)
+        (calls.find version from pattern.now (map length (S.texts shelf.now)))
+        (answer found result) (view book.now) }
 {
     if from > book.length(version)? {
         return Err(BookFault::PastEnd);
@@ -73,8 +80,10 @@ pub fn find<S: Shelf>(
 
 // The length, the height and the pieces of a version.
 pub fn shape(book: &Book<'_>, version: usize) -> Result<Dimensions, BookFault>
-    ensures { (texts : List (List ℕ)) → book_step texts (view book.now) (calls.shape version)
+    ensures steps { (texts : List (List ℕ)) → book_step texts (view book.now) (calls.shape version)
         ≡ (answer shape_told result, view book.now) }
+    ensures history { (texts : List (List ℕ)) → BookGoesOn texts (view book.now) (calls.shape version)
+        (answer shape_told result) (view book.now) }
 {
     let root = book.root(version)?;
     let nodes = book.settled();

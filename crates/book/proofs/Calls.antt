@@ -1,22 +1,25 @@
 -- The machine's step for the calls that open, keep and toss a draft.
 use Rattle.std.proofs.Common.{◌≡◌, ℕ, ◌-◌, ◌<◌, ◌≤◌, Bool, true, false, cond, List, [], ◌∷◌, ◌++◌, map, length, is_some, Some, None, Option, sym, refl, ap, ◌∙◌, subst, ap₂, arith}
 use Rattle.std.specs.List.{AllByRecursion, slice_get}
+use Rattle.std.specs.Option.{option_map}
 use Rattle.std.proofs.ByRecursion.{All-weaker, All-push, All-take}
 use Rattle.std.proofs.lemmas.List.{length_push, map_push}
 use Rattle.std.proofs.lemmas.Bool.{lt-leb, le-leb, true≢false}
 use Rattle.arrayvec.specs.ArrayVec.{ArrayVec}
 use Rattle.tree.specs.Tree.{Tree}
+use Rattle.tree.specs.Edits.{size_any}
 use Rattle.model.specs.Answers.{Answer, refused, accepted, unless, BookTold}
 use Rattle.model.specs.Book as model
-use Rattle.model.specs.Book.{lengths_of}
+use Rattle.model.specs.Book.{book_step, lengths_of}
 use Rattle.model.specs.Calls.{BookCall, open_version, keep, toss}
 use Rattle.model.specs.Rows.{most_versions, not_kept}
 use Rattle.book.specs.declared.contents.Contents.{Contents}
 use Rattle.book.specs.declared.contents.OpenDraft.{OpenDraft}
+use Rattle.book.specs.declared.node.Node.{Node}
 use Rattle.book.specs.Records.{trees, Store, in_use, room}
 use Rattle.book.specs.Changing.{Root, any_in}
 use Rattle.book.specs.Contents.{noted, versions, Inside, Consistent}
-use Rattle.book.specs.View.{view_of, Steps}
+use Rattle.book.specs.View.{draft_view, view_of, Steps}
 use Rattle.book.proofs.Stores.{length_slots}
 use Rattle.book.specs.Tests.{consistent}
 use Rattle.book.proofs.Tested.{tested, passes}
@@ -30,9 +33,22 @@ module _ {A S : Type 0} {t : Bool} (row : ℕ) (o : Option ℕ) (before : S) (af
   pub pass : t ≡ false → unless (cond t (Some row) o) before after ≡ unless o before after
   pass e = rw e
 
+drafted : (xs : List Node) (o : Option OpenDraft) → is_some o ≡ true → is_some (option_map (λ (d : model.Draft). size_any d.tree) (draft_view xs o)) ≡ true
+drafted xs None e = absurd (true≢false (sym e))
+drafted xs (Some d) e = refl
+
 module _ {s : Store} {c : Contents} (w : Consistent s c) where
   pub version_there : (v : ℕ) → v < length (versions c) → not_kept (lengths_of (view_of s c)) v ≡ false
   version_there v h = let n = length_lengths w in lt-leb _ _ (omega arith)
+
+  -- refusals to open a version
+  pub open_not_kept : (v : ℕ) → length (versions c) ≤ v → (texts : List (List ℕ)) → book_step texts (view_of s c) (open_version v) ≡ (refused 5, view_of s c)
+  open_not_kept v h texts =
+      let n = length_lengths w in stop 5 _ _ _ (le-leb (length (lengths_of (view_of s c)).versions) v (omega arith))
+
+  pub open_drafted : (v : ℕ) → v < length (versions c) → is_some c.draft ≡ true → (texts : List (List ℕ)) →
+      book_step texts (view_of s c) (open_version v) ≡ (refused 6, view_of s c)
+  open_drafted v h e texts = pass 5 _ _ _ (version_there v h) ∙ stop 6 _ _ _ (drafted (in_use s) c.draft e)
 
 -- contents with their own draft
 module _ {s : Store} (c : Contents) {o : Option OpenDraft} (e : c.draft ≡ o) where

@@ -3,6 +3,7 @@ ghost use Rattle.model.specs.Answers.{opened, edited, tossed};
 ghost use Rattle.model.specs.Book.{book_step};
 ghost use Rattle.model.specs.Calls.{open_version, edit, put_piece, put_version};
 ghost use Rattle.model.specs.Calls as calls;
+ghost use Rattle.model.specs.Histories.{BookGoesOn};
 ghost use Rattle.book.specs.Faults.{answer};
 ghost use Rattle.book.specs.Receipts.{edit_answer, receipt, keep_answer, HandedBack, Opened};
 ghost use Rattle.book.specs.Whole.{view};
@@ -32,6 +33,7 @@ impl Draft {
     // Opens a draft of a kept version.
     pub fn open(book: &mut Book, version: usize) -> Result<Draft, BookFault>
         ensures steps { (texts : List (List ℕ)) → book_step texts (view book.old) (open_version version) ≡ (answer (λ _. opened) result, view book.new) }
+        ensures history { (texts : List (List ℕ)) → BookGoesOn texts (view book.old) (open_version version) (answer (λ _. opened) result) (view book.new) }
         ensures holds { Opened version result }
     {
         book.open(version)?;
@@ -48,6 +50,7 @@ impl Draft {
         len: usize,
     ) -> Result<(Draft, usize), (Draft, BookFault)>
         ensures steps { (texts : List (List ℕ)) → book_step texts (view book.old) (edit (put_piece place text from len)) ≡ (edit_answer result, view book.new) }
+        ensures history { (texts : List (List ℕ)) → BookGoesOn texts (view book.old) (edit (put_piece place text from len)) (edit_answer result) (view book.new) }
         ensures same { receipt result ≡ self }
     {
         self.with(book.put_piece(place, text, from, len))
@@ -61,6 +64,7 @@ impl Draft {
         version: usize,
     ) -> Result<(Draft, usize), (Draft, BookFault)>
         ensures steps { (texts : List (List ℕ)) → book_step texts (view book.old) (edit (put_version place version)) ≡ (edit_answer result, view book.new) }
+        ensures history { (texts : List (List ℕ)) → BookGoesOn texts (view book.old) (edit (put_version place version)) (edit_answer result) (view book.new) }
         ensures same { receipt result ≡ self }
     {
         self.with(book.put_version(place, version))
@@ -74,6 +78,7 @@ impl Draft {
         len: usize,
     ) -> Result<(Draft, usize), (Draft, BookFault)>
         ensures steps { (texts : List (List ℕ)) → book_step texts (view book.old) (edit (calls.cut from len)) ≡ (edit_answer result, view book.new) }
+        ensures history { (texts : List (List ℕ)) → BookGoesOn texts (view book.old) (edit (calls.cut from len)) (edit_answer result) (view book.new) }
         ensures same { receipt result ≡ self }
     {
         self.with(book.cut(from, len))
@@ -87,6 +92,7 @@ impl Draft {
         len: usize,
     ) -> Result<(Draft, usize), (Draft, BookFault)>
         ensures steps { (texts : List (List ℕ)) → book_step texts (view book.old) (edit (calls.crop from len)) ≡ (edit_answer result, view book.new) }
+        ensures history { (texts : List (List ℕ)) → BookGoesOn texts (view book.old) (edit (calls.crop from len)) (edit_answer result) (view book.new) }
         ensures same { receipt result ≡ self }
     {
         self.with(book.crop(from, len))
@@ -95,6 +101,7 @@ impl Draft {
     // Makes the draft the next version, which ends the receipt. A refusal hands it back.
     pub fn keep(self, book: &mut Book) -> Result<Kept, (Draft, BookFault)>
         ensures steps { (texts : List (List ℕ)) → book_step texts (view book.old) calls.keep ≡ (keep_answer result, view book.new) }
+        ensures history { (texts : List (List ℕ)) → BookGoesOn texts (view book.old) calls.keep (keep_answer result) (view book.new) }
         ensures handed { HandedBack self result }
     {
         // A match, since each arm moves the receipt.
@@ -109,7 +116,8 @@ impl Draft {
 
     // Ends the draft and frees the slots that it made. The receipt ends even where no draft is open.
     pub fn toss(self, book: &mut Book) -> Result<(), BookFault>
-        ensures { (texts : List (List ℕ)) → book_step texts (view book.old) calls.toss ≡ (answer (λ _. tossed) result, view book.new) }
+        ensures steps { (texts : List (List ℕ)) → book_step texts (view book.old) calls.toss ≡ (answer (λ _. tossed) result, view book.new) }
+        ensures history { (texts : List (List ℕ)) → BookGoesOn texts (view book.old) calls.toss (answer (λ _. tossed) result) (view book.new) }
     {
         let Draft { version: _ } = self;
         book.toss()

@@ -6,7 +6,7 @@ ghost use Rattle.book.specs.Changing.{Root, any_at};
 
 use crate::node::Node;
 
-// The number of bytes of the tree at a root.
+// The number of bytes of the tree at a root. A match: with `map_or` the proof did not close.
 pub(crate) fn tree_len(nodes: &[Node], root: Option<u16>) -> usize
     requires sound { Sound nodes.now }
     requires root { Root (length nodes.now) root }

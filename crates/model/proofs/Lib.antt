@@ -13,4 +13,4 @@ pub mod Tossing
 pub mod Allowing
 pub mod Counting
 pub mod Law
-mod Histories
+pub mod Histories

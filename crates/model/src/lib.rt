@@ -19,8 +19,9 @@ pub fn law_of_kept_versions<R: Rule>()
     ensures { Law (record { value = R.value; joined = R.joined }) }
 {}
 
-// A history that leads to the state before a call, with that call added, leads to the state after it. So the law speaks of every
-// program that makes the calls one by one, each of which is held to the machine's step.
+// A history that leads to the state before a call, with that call added, leads to the state after it, and a history of a book alone
+// is one of that book with any sheets. So the law speaks of every program that makes the calls one by one, each of which says on its
+// own contract that it is the machine's step and that the histories go on.
 pub fn histories_go_on<R: Rule>()
     ensures { HistoriesGoOn (record { value = R.value; joined = R.joined }) }
 {}

@@ -13,7 +13,7 @@ use sheet::Sheet;
 use shelf::Shelf;
 use std::alloc::{AllocError, Global};
 
-// Makes calls, one after the other, on a book and its two sheets, and gives the answers.
+// Makes calls, one after the other, on a book and its two sheets, and gives the answers. The sheets are two parameters as in `perform`.
 pub fn replay_on<P: Rule, Q: Rule, S: Shelf, T: Shelf>(
     heap: Global,
     book: &mut Book,

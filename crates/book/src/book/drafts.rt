@@ -3,6 +3,7 @@ ghost use Rattle.model.specs.Answers.{opened, kept, tossed};
 ghost use Rattle.model.specs.Book.{book_step};
 ghost use Rattle.model.specs.Calls.{open_version};
 ghost use Rattle.model.specs.Calls as calls;
+ghost use Rattle.model.specs.Histories.{BookGoesOn};
 ghost use Rattle.book.specs.Faults.{answer};
 ghost use Rattle.book.specs.Whole.{view};
 
@@ -20,7 +21,8 @@ pub struct Kept {
 impl<'a> Book<'a> {
     // Opens a draft of a kept version.
     pub fn open(&mut self, version: usize) -> Result<(), BookFault>
-        ensures { (texts : List (List ℕ)) → book_step texts (view self.old) (open_version version) ≡ (answer (λ _. opened) result, view self.new) }
+        ensures steps { (texts : List (List ℕ)) → book_step texts (view self.old) (open_version version) ≡ (answer (λ _. opened) result, view self.new) }
+        ensures history { (texts : List (List ℕ)) → BookGoesOn texts (view self.old) (open_version version) (answer (λ _. opened) result) (view self.new) }
     {
         let Book {
             nodes: _,
@@ -40,7 +42,8 @@ impl<'a> Book<'a> {
 
     // Makes the draft the next version.
     pub fn keep(&mut self) -> Result<Kept, BookFault>
-        ensures { (texts : List (List ℕ)) → book_step texts (view self.old) calls.keep ≡ (answer (λ k. kept k.version k.made) result, view self.new) }
+        ensures steps { (texts : List (List ℕ)) → book_step texts (view self.old) calls.keep ≡ (answer (λ k. kept k.version k.made) result, view self.new) }
+        ensures history { (texts : List (List ℕ)) → BookGoesOn texts (view self.old) calls.keep (answer (λ k. kept k.version k.made) result) (view self.new) }
     {
         let Book {
             nodes: _,
@@ -64,7 +67,8 @@ impl<'a> Book<'a> {
 
     // Ends the draft, and frees the slots that it made.
     pub fn toss(&mut self) -> Result<(), BookFault>
-        ensures { (texts : List (List ℕ)) → book_step texts (view self.old) calls.toss ≡ (answer (λ _. tossed) result, view self.new) }
+        ensures steps { (texts : List (List ℕ)) → book_step texts (view self.old) calls.toss ≡ (answer (λ _. tossed) result, view self.new) }
+        ensures history { (texts : List (List ℕ)) → BookGoesOn texts (view self.old) calls.toss (answer (λ _. tossed) result) (view self.new) }
     {
         let Book {
             nodes: _,

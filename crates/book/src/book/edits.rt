@@ -5,6 +5,7 @@ ghost use Rattle.model.specs.Calls.{put_piece, put_version};
 ghost use Rattle.model.specs.Calls as calls;
 ghost use Rattle.book.specs.Records.{store};
 ghost use Rattle.book.specs.Changing.{changed};
+ghost use Rattle.model.specs.Histories.{BookGoesOn};
 ghost use Rattle.book.specs.Faults.{answer};
 ghost use Rattle.book.specs.Judging.{edit_of};
 ghost use Rattle.book.specs.View.{Fits, Redrafts};
@@ -44,7 +45,8 @@ impl<'a> Book<'a> {
 
     // Makes an edit of the draft, if no row refuses it.
     fn edit(&mut self, edit: Edit) -> Result<usize, BookFault>
-        ensures { (texts : List (List ℕ)) → book_step texts (view self.old) (calls.edit (edit_of edit)) ≡ (answer edited result, view self.new) }
+        ensures steps { (texts : List (List ℕ)) → book_step texts (view self.old) (calls.edit (edit_of edit)) ≡ (answer edited result, view self.new) }
+        ensures history { (texts : List (List ℕ)) → BookGoesOn texts (view self.old) (calls.edit (edit_of edit)) (answer edited result) (view self.new) }
     {
         let (draft, change) = self.judge(edit)?;
         self.redraft(draft, change)
@@ -58,7 +60,8 @@ impl<'a> Book<'a> {
         from: usize,
         len: usize,
     ) -> Result<usize, BookFault>
-        ensures { (texts : List (List ℕ)) → book_step texts (view self.old) (calls.edit (put_piece place text from len)) ≡ (answer edited result, view self.new) }
+        ensures steps { (texts : List (List ℕ)) → book_step texts (view self.old) (calls.edit (put_piece place text from len)) ≡ (answer edited result, view self.new) }
+        ensures history { (texts : List (List ℕ)) → BookGoesOn texts (view self.old) (calls.edit (put_piece place text from len)) (answer edited result) (view self.new) }
     {
         self.edit(Edit::PutPiece {
             place,
@@ -70,21 +73,24 @@ impl<'a> Book<'a> {
 
     // Puts a kept version into the draft at `place`. Answers how many slots were made.
     pub fn put_version(&mut self, place: usize, version: usize) -> Result<usize, BookFault>
-        ensures { (texts : List (List ℕ)) → book_step texts (view self.old) (calls.edit (put_version place version)) ≡ (answer edited result, view self.new) }
+        ensures steps { (texts : List (List ℕ)) → book_step texts (view self.old) (calls.edit (put_version place version)) ≡ (answer edited result, view self.new) }
+        ensures history { (texts : List (List ℕ)) → BookGoesOn texts (view self.old) (calls.edit (put_version place version)) (answer edited result) (view self.new) }
     {
         self.edit(Edit::PutVersion { place, version })
     }
 
     // Drops `len` bytes of the draft at `from`. Answers how many slots were made.
     pub fn cut(&mut self, from: usize, len: usize) -> Result<usize, BookFault>
-        ensures { (texts : List (List ℕ)) → book_step texts (view self.old) (calls.edit (calls.cut from len)) ≡ (answer edited result, view self.new) }
+        ensures steps { (texts : List (List ℕ)) → book_step texts (view self.old) (calls.edit (calls.cut from len)) ≡ (answer edited result, view self.new) }
+        ensures history { (texts : List (List ℕ)) → BookGoesOn texts (view self.old) (calls.edit (calls.cut from len)) (answer edited result) (view self.new) }
     {
         self.edit(Edit::Cut { from, len })
     }
 
     // Drops all of the draft but `len` bytes at `from`. Answers how many slots were made.
     pub fn crop(&mut self, from: usize, len: usize) -> Result<usize, BookFault>
-        ensures { (texts : List (List ℕ)) → book_step texts (view self.old) (calls.edit (calls.crop from len)) ≡ (answer edited result, view self.new) }
+        ensures steps { (texts : List (List ℕ)) → book_step texts (view self.old) (calls.edit (calls.crop from len)) ≡ (answer edited result, view self.new) }
+        ensures history { (texts : List (List ℕ)) → BookGoesOn texts (view self.old) (calls.edit (calls.crop from len)) (answer edited result) (view self.new) }
     {
         self.edit(Edit::Crop { from, len })
     }

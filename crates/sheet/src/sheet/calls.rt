@@ -2,6 +2,7 @@ ghost use Rattle.std.specs.Prelude.{◌≡◌, map, length};
 ghost use Rattle.model.specs.Answers.{SheetTold};
 ghost use Rattle.model.specs.Calls.{bring_up};
 ghost use Rattle.model.specs.Calls as calls;
+ghost use Rattle.model.specs.Histories.{SheetGoesOn};
 ghost use Rattle.model.specs.Sheet.{new_sheet, sheet_step};
 ghost use Rattle.book.specs.Whole.{view};
 ghost use Rattle.sheet.specs.Faults.{answer};
@@ -27,9 +28,12 @@ impl<'a, R: Rule> Sheet<'a, R> {
     // Covers the slots in use but those of an open draft, which may be tossed and filled otherwise later.
     // Answers how many slots were added.
     pub fn bring_up<S: Shelf>(&mut self, book: &Book, shelf: &S) -> Result<usize, SheetFault>
-        ensures { sheet_step (S.texts shelf.now) (rule_of R.value R.joined) (view book.now)
+        ensures steps { sheet_step (S.texts shelf.now) (rule_of R.value R.joined) (view book.now)
             (sheet_view self.old) (bring_up (map length (S.texts shelf.now)))
             ≡ (answer SheetTold.added result, sheet_view self.new) }
+        ensures history { SheetGoesOn (S.texts shelf.now) (rule_of R.value R.joined) (view book.now)
+            (sheet_view self.old) (bring_up (map length (S.texts shelf.now)))
+            (answer SheetTold.added result) (sheet_view self.new) }
     {
         let Sheet { values, covered } = self;
         let count = book.settled().len();
@@ -52,9 +56,12 @@ impl<'a, R: Rule> Sheet<'a, R> {
         from: usize,
         len: usize,
     ) -> Result<R::Value, SheetFault>
-        ensures { sheet_step (S.texts shelf.now) (rule_of R.value R.joined) (view book.now)
+        ensures steps { sheet_step (S.texts shelf.now) (rule_of R.value R.joined) (view book.now)
             (sheet_view self.old) (calls.summary version from len (map length (S.texts shelf.now)))
             ≡ (answer SheetTold.value result, sheet_view self.new) }
+        ensures history { SheetGoesOn (S.texts shelf.now) (rule_of R.value R.joined) (view book.now)
+            (sheet_view self.old) (calls.summary version from len (map length (S.texts shelf.now)))
+            (answer SheetTold.value result) (sheet_view self.new) }
     {
         let Sheet { values, covered } = self;
         let root = book.root(version)?;

@@ -12,12 +12,12 @@ use Rattle.replay.proofs.question.read_bytes.Goals as goal
 pub returns-in-Err : goal.returns-in-Err
 returns-in-Err g c =
     let texts = g.S.Shelf.texts c.args.shelf.now in
-    read_refused texts (view c.args.book.now) c.args.version _ (c.in-Err.ensures texts) c.args.from c.args.len (map length texts)
+    read_refused texts (view c.args.book.now) c.args.version _ (c.in-Err.ensures.steps texts) c.args.from c.args.len (map length texts)
 
 pub returns-in-Ok : goal.returns-in-Ok
 returns-in-Ok g c =
     let texts = g.S.Shelf.texts c.args.shelf.now in
-    read_past texts (view c.args.book.now) c.args.version c.in-Ok.dimensions (c.in-Ok.ensures texts) c.args.from c.args.len (map length texts)
+    read_past texts (view c.args.book.now) c.args.version c.in-Ok.dimensions (c.in-Ok.ensures.steps texts) c.args.from c.args.len (map length texts)
     c.if-len-dimensions.true
 
 pub returns : goal.returns

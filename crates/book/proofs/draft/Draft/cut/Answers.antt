@@ -1,4 +1,7 @@
 use Rattle.book.proofs.draft.Draft.cut.Goals as goal
 
 pub returns-clause-steps : goal.returns-clause-steps
-returns-clause-steps c texts = rw c.with.ensures.told (c.cut.ensures texts)
+returns-clause-steps c texts = rw c.with.ensures.told (c.cut.ensures.steps texts)
+
+pub returns-clause-history : goal.returns-clause-history
+returns-clause-history c texts = rw c.with.ensures.told (c.cut.ensures.history texts)
