@@ -46,7 +46,7 @@ impl<T: Copy, const N: usize> CopyVec<T, N> {
         &self.slots[..self.len]
     }
 
-    // Adds values at the end if all of them have room, and says whether they had it.
+    // Adds values at the end if all of them have room, and says whether they had it: a bool, since there is one way to fail.
     pub(crate) fn extend(&mut self, more: &[T]) -> bool
         ensures room { result ≡ nat_le (length (items self.old) + length more.now) N }
         ensures list { items self.new ≡ (if result then items self.old ++ more.now else items self.old) }
