@@ -47,7 +47,7 @@ impl Cover {
     }
 
     // Whether a call on a sheet was answered as the strings and the slots say; `value` gives the value of some bytes by its rule.
-    pub fn agrees<V: Copy + PartialEq, F: Fn(&[u8]) -> V>(
+    pub(crate) fn agrees<V: Copy + PartialEq, F: Fn(&[u8]) -> V>(
         &mut self,
         source: Source,
         slots: &Slots,

@@ -42,7 +42,7 @@ impl Random {
     }
 
     // One of some values, each as often as it stands among them.
-    pub fn pick<T: Copy, const N: usize>(&mut self, values: &[T; N]) -> T
+    pub(crate) fn pick<T: Copy, const N: usize>(&mut self, values: &[T; N]) -> T
         requires { 0 < N }
     {
         values[self.below(N)]
