@@ -48,6 +48,8 @@ fn view_frame(heap: Global, name: &str, frame: Checked<'_>) -> Result<Vec<u8>, A
     let kind = frame.kind();
     let text = text_bytes(heap, &frame.text(), 0)?;
     let mut out = view_kind(heap, name, kind, text.len())?;
+    // Room for all that follows, so that no growth copies the text once more.
+    out.reserve(text.len().saturating_add(1))?;
     out.extend_from_slice(text.as_slice())?;
     out.push(b'\n')?;
     Ok(out)
