@@ -26,8 +26,8 @@ impl HeuristicFrequencyRank for FirstRarest {
     }
 }
 
-// A search for a pattern. It scans for the pattern's first byte with one more that is rare, so a text that lacks the first
-// byte is passed over, whatever it is made of.
+// A search for a pattern. Its scan goes by the pattern's first byte and another one, so that a long text without the first byte
+// is passed over, whatever it is made of.
 fn finder_of(pattern: &[u8]) -> Finder<'_>
     requires { 0 < length pattern.now }
     ensures { result ≡ pattern.now }
@@ -49,7 +49,7 @@ pub(crate) fn stream<S: Shelf>(
     ensures { result ≡ Ok (first_place pattern.now from (drop from (bytes_at (S.texts reader.now.shelf.now) reader.now.nodes.now slot))) }
 {
     let end = reader.nodes[slot as usize].len as usize;
-    // The pattern has room at the places before `stop` alone.
+    // The pattern has room at the places before `stop` alone. Where there are none, no searcher is made.
     let stop = (end + 1).saturating_sub(pattern.len());
     if from >= stop {
         return Ok(None);
